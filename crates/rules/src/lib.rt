@@ -1,0 +1,2 @@
+//! Rule texts.
+pub mod rule;
