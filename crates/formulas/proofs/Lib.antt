@@ -1,1 +1,4 @@
 pub mod Values
+pub mod Machine
+pub mod Complete
+pub mod Sound

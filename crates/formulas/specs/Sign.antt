@@ -25,10 +25,14 @@ infix-sign And = 38 ∷ []
 infix-sign Until = 85 ∷ []
 infix-sign Release = 82 ∷ []
 
--- what a byte is: a blank, a bracket, one of the two bytes of ->, 0 or 1, a letter a to p, an operator, or nothing known
+-- what a byte is: a letter a to p, a blank, a bracket, one of the two bytes of ->, 0 or 1, an operator, or nothing known
+abbrev pub is-letter : ℕ → Bool
+is-letter b = cond (leb 97 b) (leb b 112) false
+
 abbrev pub sign : ℕ → Sign
 sign b =
-    cond (eqb b 32) Blank
+    cond (is-letter b) (Letter (b - 97))
+    (cond (eqb b 32) Blank
     (cond (eqb b 40) Open
     (cond (eqb b 41) Close
     (cond (eqb b 45) Dash
@@ -42,5 +46,4 @@ sign b =
     (cond (eqb b 124) (Between Or)
     (cond (eqb b 38) (Between And)
     (cond (eqb b 85) (Between Until)
-    (cond (eqb b 82) (Between Release)
-    (cond (leb 97 b) (cond (leb b 112) (Letter (b - 97)) Unknown) Unknown)))))))))))))))
+    (cond (eqb b 82) (Between Release) Unknown)))))))))))))))
