@@ -2,3 +2,4 @@ pub mod Values
 pub mod Machine
 pub mod Complete
 pub mod Sound
+pub mod Shortest

@@ -91,31 +91,31 @@ pub record Stands (K : List Frame) (l : ℕ) (f : Formula) (t : List ℕ) : Type
   pub whole : t ≡ front ++ operand
   pub fits : bound-top K ≤ l
 
-right-low : (op : Infix) → 1 ≤ right op
+pub right-low : (op : Infix) → 1 ≤ right op
 right-low Implies = lit≤ tt
 right-low Or = lit≤ tt
 right-low And = lit≤ tt
 right-low Until = lit≤ tt
 right-low Release = lit≤ tt
 
-level-low : (op : Infix) → 1 ≤ level op
+pub level-low : (op : Infix) → 1 ≤ level op
 level-low Implies = lit≤ tt
 level-low Or = lit≤ tt
 level-low And = lit≤ tt
 level-low Until = lit≤ tt
 level-low Release = lit≤ tt
 
-left-low : (op : Infix) → 1 ≤ left op
+pub left-low : (op : Infix) → 1 ≤ left op
 left-low op = omega (arith, level-low op, level-left op)
 
-left-high : (op : Infix) → left op ≤ 5
+pub left-high : (op : Infix) → left op ≤ 5
 left-high Implies = lit≤ tt
 left-high Or = lit≤ tt
 left-high And = lit≤ tt
 left-high Until = lit≤ tt
 left-high Release = lit≤ tt
 
-right-high : (op : Infix) → right op ≤ 5
+pub right-high : (op : Infix) → right op ≤ 5
 right-high Implies = lit≤ tt
 right-high Or = lit≤ tt
 right-high And = lit≤ tt
