@@ -3,3 +3,4 @@ pub mod Machine
 pub mod Complete
 pub mod Sound
 pub mod Shortest
+pub mod Temporal

@@ -59,8 +59,9 @@ written-text (unary op f) h l low high = loosen low high (prefixed op (written-t
 written-text (binary op f g) h l low high =
     let body : Text (level op) (bare op f g) (binary op f g) = joined op (written-text f (h .0) (left op) (left-low op) (left-high op)) (written-text g (h .1) (right op) (right-low op) (right-high op)) in
     elim (cases-bool (ltb (level op) l)) [
-      inl e ↦ rw (written-in l op f g (ltb-true (level op) l e)) (loosen low high (bracketed (loosen (lit≤ tt) (level-low op) body)))
-    | inr e ↦ rw (written-bare l op f g (ltb-false (level op) l e)) (loosen low (ltb-false (level op) l e) body) ]
+      | inl e ↦ rw (written-in l op f g (ltb-true (level op) l e)) (loosen low high (bracketed (loosen (lit≤ tt) (level-low op) body)))
+      | inr e ↦ rw (written-bare l op f g (ltb-false (level op) l e)) (loosen low (ltb-false (level op) l e) body)
+    ]
 
 -- it is that text, or it is longer
 abbrev Beside : List ℕ → List ℕ → Type 0
@@ -85,12 +86,14 @@ relaxed l (letter a) = inl refl
 relaxed l (unary op f) = inl refl
 relaxed l (binary op f g) =
     elim (cases-bool (ltb (level op) l)) [
-      inl e ↦ let lt = ltb-true (level op) l e in inl (written-in (suc l) op f g (omega arith) ∙ sym (written-in l op f g lt))
-    | inr e ↦
-        let ge = ltb-false (level op) l e in
-        elim (cases-bool (ltb (level op) (suc l))) [
-          inl k ↦ let lt = ltb-true (level op) (suc l) k in inr (rw (written-in (suc l) op f g lt, written-bare l op f g ge) (omega (arith, length-brackets (bare op f g))))
-        | inr k ↦ let ge2 = ltb-false (level op) (suc l) k in inl (written-bare (suc l) op f g ge2 ∙ sym (written-bare l op f g ge)) ] ]
+      | inl e ↦ let lt = ltb-true (level op) l e in inl (written-in (suc l) op f g (omega arith) ∙ sym (written-in l op f g lt))
+      | inr e ↦
+          let ge = ltb-false (level op) l e in
+          elim (cases-bool (ltb (level op) (suc l))) [
+            | inl k ↦ let lt = ltb-true (level op) (suc l) k in inr (rw (written-in (suc l) op f g lt, written-bare l op f g ge) (omega (arith, length-brackets (bare op f g))))
+            | inr k ↦ let ge2 = ltb-false (level op) (suc l) k in inl (written-bare (suc l) op f g ge2 ∙ sym (written-bare l op f g ge))
+          ]
+    ]
 
 longer : (w s t : List ℕ) → Beside w s → length s < length t → Beside w t
 longer w s t (inl e) h = let n : length s ≡ length w = ap length e in inr (omega arith)
@@ -123,15 +126,17 @@ shortest-at (prefixed {s} {f} op t) = cons-beside (prefix-sign op) (written-at 5
 shortest-at (bracketed {s} {f} t) =
     let ih = shortest-at t in
     elim (wrapped f) [
-      inl e ↦ rw e (longer (written-at 1 f) s (in-brackets s) ih (omega (arith, length-brackets s)))
-    | inr e ↦ rw e (bracket-beside (written-at 1 f) s ih) ]
+      | inl e ↦ rw e (longer (written-at 1 f) s (in-brackets s) ih (omega (arith, length-brackets s)))
+      | inr e ↦ rw e (bracket-beside (written-at 1 f) s ih)
+    ]
 shortest-at (joined {s} {t} {f} {g} op a b) =
     rw (written-bare (level op) op f g (omega arith)) (join-beside (infix-sign op) (written-at (left op) f) s (written-at (right op) g) t (shortest-at a) (shortest-at b))
 shortest-at (tighter {l} {s} {f} low t) =
     let ih = shortest-at t in
     elim (relaxed l f) [
-      inl e ↦ rw e at ih
-    | inr h ↦ elim ih [ inl k ↦ let n : length s ≡ length (written-at (suc l) f) = ap length k in inr (omega arith) | inr k ↦ inr (omega arith) ] ]
+      | inl e ↦ rw e at ih
+      | inr h ↦ elim ih [ inl k ↦ let n : length s ≡ length (written-at (suc l) f) = ap length k in inr (omega arith) | inr k ↦ inr (omega arith) ]
+    ]
 shortest-at (blank-before {l} {s} {f} t) = longer (written-at l f) s (32 ∷ s) (shortest-at t) (omega arith)
 shortest-at (blank-after {l} {s} {f} t) = longer (written-at l f) s (s ++ (32 ∷ [])) (shortest-at t) (omega (arith, length-append s (32 ∷ [])))
 
