@@ -3,17 +3,18 @@
 use mathlib.Core.Path.{_≡_, refl, sym, ap, _∙_}
 use mathlib.Core.Bool.{Bool, true, false, cond}
 use mathlib.Core.List.{List, [], _∷_, _++_, append-assoc}
-use Prim.Native.Nat.{ℕ, zero, suc, _+_, _<_, _≤_}
+use mathlib.Core.Logic.{inl, inr}
+use Prim.Native.Nat.{ℕ, zero, suc, _+_, _-_, _<_, _≤_}
 use native.Mathlib.Nat.{add-zero, zero-add}
 use native.Mathlib.Omega.{arith}
 use lib.Dec.{ltb}
 use lib.ListN.{length, getD, length-append}
-use Rattle.std.proofs.shelf.Lists.{getD-append-left, getD-at, length-push}
-use Rattle.std.proofs.shelf.Tests.{ltb-true, both-ways}
+use Rattle.std.proofs.shelf.Lists.{getD-append-left, getD-at, getD-past, length-push}
+use Rattle.std.proofs.shelf.Tests.{ltb-true, both-ways, cases-order}
 use Rattle.formulas.specs.declared.Part.{Part}
 use Rattle.formulas.specs.declared.Part.the-variants.{Constant, Letter, Unary, Binary}
-use Rattle.formulas.specs.Formula.{Formula, constant, unary, binary, temporal-prefix, temporal-infix}
-use Rattle.formulas.specs.Table.{values-on, formula-over, formulas, locations-over, locations, sound-part, sound-from, sound}
+use Rattle.formulas.specs.Formula.{Formula, constant, unary, binary, temporal-prefix, temporal-infix, operators}
+use Rattle.formulas.specs.Table.{values-on, formula-over, formulas, locations-over, locations, whole-formula, whole-locations, sound-part, sound-from, sound}
 
 -- a test made of two
 pub both-true : (a b : Bool) → cond a b false ≡ true → (a ≡ true) × (b ≡ true)
@@ -134,3 +135,48 @@ formula-at = value-at formula-over (constant false) formula-local
 
 pub locations-at : (ps : List Part) (k : ℕ) (e : Part) → sound ps ≡ true → k < length ps → getD (locations ps) k [] ≡ locations-over (locations ps) (getD ps k e)
 locations-at = value-at locations-over [] locations-local
+
+-- a formula has as many temporal operators as its part has locations
+abbrev Agree : List Formula → List (List ℕ) → Type 0
+Agree fs ls = (j : ℕ) → length (getD ls j []) ≡ operators (getD fs j (constant false))
+
+location-one : (b : Bool) (l : ℕ) → length (cond b (l ∷ []) []) ≡ cond b 1 0
+location-one true l = refl
+location-one false l = refl
+
+agree-over : (fs : List Formula) (ls : List (List ℕ)) → Agree fs ls → (p : Part) → length (locations-over ls p) ≡ operators (formula-over fs p)
+agree-over fs ls h (Constant b) = refl
+agree-over fs ls h (Letter a) = refl
+agree-over fs ls h (Unary op f location) =
+    let here : List ℕ = cond (temporal-prefix op) (location ∷ []) [] in
+    let a = length-append here (getD ls f []) in
+    let b = location-one (temporal-prefix op) location in
+    omega (arith, a, b, h f)
+agree-over fs ls h (Binary op f g location) =
+    let here : List ℕ = cond (temporal-infix op) (location ∷ []) [] in
+    let a = length-append (getD ls f []) (here ++ getD ls g []) in
+    let b = length-append here (getD ls g []) in
+    let c = location-one (temporal-infix op) location in
+    omega (arith, a, b, c, h f, h g)
+
+agree-push : (fs : List Formula) (ls : List (List ℕ)) → length fs ≡ length ls → Agree fs ls → (f : Formula) (l : List ℕ) → length l ≡ operators f → Agree (fs ++ (f ∷ [])) (ls ++ (l ∷ []))
+agree-push fs ls n h f l e j =
+    elim (cases-order j (length ls)) [
+      | inl same ↦ rw (getD-at ls l [] [] j (sym same), getD-at fs f [] (constant false) j (n ∙ sym same)) e
+      | inr other ↦ elim other [
+        | inl lt ↦ rw (getD-append-left ls (l ∷ []) [] j lt, getD-append-left fs (f ∷ []) (constant false) j (omega arith)) (h j)
+        | inr gt ↦
+            let a : length (ls ++ (l ∷ [])) ≤ j = omega (arith, length-push ls l) in
+            let b : length (fs ++ (f ∷ [])) ≤ j = omega (arith, length-push fs f) in
+            rw (getD-past (ls ++ (l ∷ [])) j [] a, getD-past (fs ++ (f ∷ [])) j (constant false) b) refl
+      ]
+    ]
+
+agree-values : (fs : List Formula) (ls : List (List ℕ)) → length fs ≡ length ls → Agree fs ls → (ps : List Part) → Agree (values-on formula-over fs ps) (values-on locations-over ls ps)
+agree-values fs ls n h [] = h
+agree-values fs ls n h (p ∷ ps) =
+    let m : length (fs ++ (formula-over fs p ∷ [])) ≡ length (ls ++ (locations-over ls p ∷ [])) = omega (arith, length-push fs (formula-over fs p), length-push ls (locations-over ls p)) in
+    agree-values (fs ++ (formula-over fs p ∷ [])) (ls ++ (locations-over ls p ∷ [])) m (agree-push fs ls n h (formula-over fs p) (locations-over ls p) (agree-over fs ls h p)) ps
+
+pub locations-count : (ps : List Part) → length (whole-locations ps) ≡ operators (whole-formula ps)
+locations-count ps = agree-values [] [] refl (λ j. refl) ps (length ps - 1)

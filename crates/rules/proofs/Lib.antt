@@ -1,2 +1,4 @@
 pub mod Tables
 pub mod Reduce
+pub mod Steps
+pub mod Ends

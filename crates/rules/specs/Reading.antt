@@ -6,13 +6,27 @@ use mathlib.Core.List.{List, [], _∷_, _++_}
 use Prim.Native.Nat.{ℕ, suc, _+_, _-_, _<_, _≤_}
 use lib.Dec.{ltb}
 use lib.ListN.{length, getD, take, set}
+use Rattle.formulas.specs.declared.Infix.{Infix}
 use Rattle.formulas.specs.declared.Part.{Part}
 use Rattle.formulas.specs.declared.Part.the-variants.{Constant, Unary, Binary}
 use Rattle.formulas.specs.Formula.{Formula, constant, temporal-prefix, temporal-infix}
 use Rattle.formulas.specs.Table.{formulas, locations, whole-formula, whole-locations, counted-from, sound}
 use Rattle.formulas.specs.Grammar.{right}
 use Rattle.formulas.proofs.Machine as machine
-use Rattle.formulas.proofs.Machine.{State, wanting, having, dashed, failed, reduce, bracket, waiting, halfway}
+use Rattle.formulas.proofs.Machine.{State, wanting, having, dashed, failed, reduce, push, step, bracket, waiting, halfway}
+use Rattle.formulas.proofs.Sound.{Alive}
+use Rattle.formulas.proofs.Temporal.{temporal-of}
+use Rattle.faults.specs.declared.Cause.the-variants.{UnexpectedByte, TextTooShort, TooManyOperators}
+use Rattle.faults.specs.declared.Fault.{Fault}
+use Rattle.std.specs.declared.result.Result.{Result}
+use Rattle.std.specs.declared.result.Result.the-variants.{Ok, Err}
+use Rattle.rules.specs.declared.rule.Rule.{Rule}
+use Rattle.rules.specs.Refusal.{rule-fault}
+use Rattle.rules.specs.Rules.{formula}
+use Rattle.formulas.specs.declared.Sign.{Sign}
+use Rattle.formulas.specs.declared.Sign.the-variants.{Blank, Open, Close, Dash, Head, Letter, Before, Between, Unknown}
+use Rattle.formulas.specs.declared.Sign.the-variants.{Constant as ConstantSign}
+use Rattle.formulas.specs.Grammar.{level}
 use Rattle.rules.specs.declared.reader.Frame.{Frame}
 use Rattle.rules.specs.declared.reader.Frame.the-variants.{Bracket, Waiting, Halfway}
 use Rattle.rules.specs.declared.reader.Mode.{Mode}
@@ -140,3 +154,58 @@ pub record Reduced (c : ℕ) (r : Reader) (n : ℕ) (q : Reader) : Type 0 where
   pub located : all-locations (parts-of q) (frames-of q) ≡ all-locations (parts-of r) (frames-of r)
   pub mode : q .mode ≡ r .mode
   pub temporals : q .temporals ≡ r .temporals
+
+abbrev pub with-temporals : Reader → ℕ → Reader
+with-temporals r n = record { parts = r .parts; count = r .count; frames = r .frames; depth = r .depth; mode = r .mode; temporals = n }
+
+-- a temporal operator counts one
+abbrev pub one-if : Bool → ℕ
+one-if b = cond b 1 0
+
+-- a location was given, or the tenth temporal operator refused
+abbrev pub Located : Reader → Bool → ℕ → Reader → Result ℕ Fault → Type 0
+Located r temporal n q (Ok location) = (q ≡ with-temporals r (r .temporals + one-if temporal)) × (location ≡ cond temporal (r .temporals + 1) 0) × (r .temporals + one-if temporal ≤ 9)
+Located r temporal n q (Err f) = (temporal ≡ true) × (r .temporals ≡ 9) × (f ≡ rule-fault TooManyOperators n)
+
+-- after a byte with the sign s, of n + 1 bytes: the reader moved on as the machine does
+pub record Moved (r : Reader) (s : Sign) (n : ℕ) (q : Reader) : Type 0 where
+  pub sane : Sane q (n + 1)
+  pub state-is : state-of q ≡ step (state-of r) s
+  pub temporals-are : q .temporals ≡ r .temporals + one-if (temporal-of s)
+
+-- or it stopped: the machine fails at the sign, or the sign is a tenth temporal operator at which it would go on
+pub data Stopped (r : Reader) (s : Sign) (n : ℕ) : Fault → Type 0 where
+  no-rule : step (state-of r) s ≡ failed → Stopped r s n (rule-fault UnexpectedByte n)
+  tenth : Alive (step (state-of r) s) → temporal-of s ≡ true → r .temporals ≡ 9 → Stopped r s n (rule-fault TooManyOperators n)
+
+abbrev pub Stepped : Reader → Sign → ℕ → Reader → Result (Unit {0}) Fault → Type 0
+Stepped r s n q (Ok _) = Moved r s n q
+Stepped r s n q (Err f) = Stopped r s n f
+
+-- after an infix operator
+pub record Joined (r : Reader) (op : Infix) (n : ℕ) (q : Reader) : Type 0 where
+  pub sane : Sane q (n + 1)
+  pub state-is : state-of q ≡ push op (reduce (level op) (stack (parts-of r) (frames-of r)) (whole-formula (parts-of r)))
+  pub temporals-are : q .temporals ≡ r .temporals + one-if (temporal-infix op)
+
+abbrev pub Joining : Reader → Infix → ℕ → Reader → Result (Unit {0}) Fault → Type 0
+Joining r op n q (Ok _) = Joined r op n q
+Joining r op n q (Err f) = (temporal-infix op ≡ true) × (r .temporals ≡ 9) × (f ≡ rule-fault TooManyOperators n)
+
+-- a letter is one of a to p
+abbrev pub Known : Sign → Type 0
+Known Blank = Unit {0}
+Known Open = Unit {0}
+Known Close = Unit {0}
+Known Dash = Unit {0}
+Known Head = Unit {0}
+Known (ConstantSign b) = Unit {0}
+Known (Letter a) = a < 16
+Known (Before op) = Unit {0}
+Known (Between op) = Unit {0}
+Known Unknown = Unit {0}
+
+-- at the end of a text of n bytes: the rule, where nothing is open; else the text ends too early
+abbrev pub Finished : Reader → ℕ → Result Rule Fault → Type 0
+Finished r n (Ok rule) = (K : List machine.Frame) × (g : Formula) × (state-of r ≡ having K g) × (reduce 0 K g ≡ ([], formula rule))
+Finished r n (Err f) = (f ≡ rule-fault TextTooShort n) × ((K : List machine.Frame) (g h : Formula) → state-of r ≡ having K g → reduce 0 K g ≡ ([], h) → ⊥)
