@@ -4,6 +4,7 @@ ghost use mathlib.Core.Path.{_≡_};
 ghost use Prim.Native.Nat.{_+_, _*_, min};
 ghost use Rattle.std.specs.declared.option.Option.the-variants.{Some};
 ghost use Rattle.faults.specs.Numbers.{cause-number, layer-number, fault-text};
+ghost use Rattle.faults.specs.Writing.{put-answer, put-list};
 use std::fmt;
 
 /// Why a call was refused. `number` gives the number that users know a cause by.
@@ -125,4 +126,22 @@ pub impl fmt::Display for Fault as FaultDisplay {
         let layer = self.layer.number();
         write!(f, "{cause} {place} {layer}")
     }
+}
+
+/// Writes bytes into the front of a lent list, all of them or, where it is too short, none.
+pub fn put(bytes: &[u8], out: &mut [u8], layer: Layer) -> Result<usize, Fault>
+    ensures answer { λ r. ⌜ r ≡ put-answer layer (now (bytes .entry)) (now (out .entry)) ⌝ }
+    ensures list { λ _. ⌜ now (out .exit) ≡ put-list (now (bytes .entry)) (now (out .entry)) ⌝ }
+{
+    let count = bytes.len();
+    if out.len() < count {
+        return Err(Fault {
+            cause: Cause::ListTooShort,
+            place: 1,
+            layer,
+        });
+    }
+    let front = &mut out[0..count];
+    front.copy_from_slice(bytes);
+    Ok(count)
 }

@@ -2,6 +2,7 @@
 use mathlib.Core.Path.{_≡_, refl, sym, ap, ap₂, subst, _∙_}
 use mathlib.Core.Bool.{Bool, true, false, cond}
 use mathlib.Core.List.{List, [], _∷_, _++_}
+use mathlib.Core.Logic.{inl, inr}
 use Prim.Native.Nat.{ℕ, zero, suc, _+_, _-_, _<_, _≤_}
 use native.Mathlib.Nat.{add-zero}
 use native.Mathlib.Numerals.{add-one}
@@ -16,7 +17,9 @@ use Rattle.formulas.specs.Formula.{Formula, operators}
 use Rattle.formulas.specs.Sign.{sign}
 use Rattle.formulas.specs.Grammar.{Reads, Begins, temporals}
 use Rattle.formulas.specs.Table.{formulas, locations, whole-formula, whole-locations, counted-from, sound}
+use Rattle.formulas.specs.Written.{written}
 use Rattle.formulas.proofs.Values.{locations-count}
+use Rattle.formulas.proofs.Shortest.{only-shortest}
 use Rattle.formulas.proofs.Machine as machine
 use Rattle.formulas.proofs.Machine.{State, wanting, having, dashed, failed, reduce, step, run, run-append}
 use Rattle.formulas.proofs.Sound.{Alive, alive-run, failed-run, accepted-reads, reads-accepted}
@@ -26,7 +29,7 @@ use Rattle.rules.specs.declared.reader.Mode.{Mode}
 use Rattle.rules.specs.declared.reader.Frame.{Frame}
 use Rattle.rules.specs.declared.reader.Reader.{Reader}
 use Rattle.rules.specs.declared.rule.Rule.{Rule}
-use Rattle.rules.specs.Reading.{parts-of, frames-of, stack, state, state-of, open-locations, all-locations, less-frame, top-frame, one-if, Sane, Reduced, Moved, Stopped, no-rule, tenth, Finished}
+use Rattle.rules.specs.Reading.{parts-of, frames-of, stack, state, state-of, open-locations, all-locations, less-frame, top-frame, one-if, Sane, Reduced, Moved, Stopped, no-rule, tenth, Finished, Progress}
 use Rattle.rules.specs.Refusal.{Refused, unexpected, too-many, too-short, Answered, Accepted}
 use Rattle.rules.specs.Rules.{formula}
 use Rattle.rules.proofs.Tables.{frames-less, stack-push}
@@ -37,18 +40,30 @@ counted-length k (suc n) = ap suc (counted-length (suc k) n)
 
 -- what a rule of the parts of q needs
 pub record Whole (q : Reader) : Type 0 where
+  pub brief : length (written (whole-formula (parts-of q))) ≤ 128
   pub numbered : whole-locations (parts-of q) ≡ counted-from 1 (operators (whole-formula (parts-of q)))
   pub nine : operators (whole-formula (parts-of q)) ≤ 9
 
-pub whole-rule : (r : Reader) (n : ℕ) (q : Reader) → Sane r n → r .mode ≡ Having → Reduced 0 r n q → q .depth ≤ 0 → Whole q
-whole-rule r n q h m d z =
+-- no text of a formula is shorter than the written one
+written-brief : (text : List ℕ) (f : Formula) → Reads text f → length (written f) ≤ length text
+written-brief text f x = elim (only-shortest text f x) [ inl e ↦ let n : length text ≡ length (written f) = ap length e in omega arith | inr h ↦ omega arith ]
+
+pub whole-rule : (text : List ℕ) (n : ℕ) (r q : Reader) → n ≡ length text → Progress text n r → r .mode ≡ Having → Reduced 0 r n q → q .depth ≤ 0 → Whole q
+whole-rule text n r q en p m d z =
+    let h = p .sane in
     let e : q .depth ≡ 0 = omega arith in
     let f : frames-of q ≡ [] = ap (λ (k : ℕ). take k (q .frames)) e in
     let num : all-locations (parts-of r) (frames-of r) ≡ counted-from 1 (r .temporals) = rw m at (h .numbered) in
     let l : whole-locations (parts-of q) ≡ counted-from 1 (r .temporals) = ap (λ (g : List Frame). open-locations (locations (parts-of q)) g ++ whole-locations (parts-of q)) (sym f) ∙ d .located ∙ num in
     let c : operators (whole-formula (parts-of q)) ≡ r .temporals = sym (locations-count (parts-of q)) ∙ ap length l ∙ counted-length 1 (r .temporals) in
     let ni = h .nine in
-    record { numbered = rw c l; nine = omega arith }
+    let all : take n text ≡ text = take-all n text (omega arith) in
+    let st : state-of r ≡ having (stack (parts-of r) (frames-of r)) (whole-formula (parts-of r)) = ap (state (parts-of r) (frames-of r)) m in
+    let ran : run (wanting []) text ≡ having (stack (parts-of r) (frames-of r)) (whole-formula (parts-of r)) = rw all at (p .ran ∙ st) in
+    let v : reduce 0 (stack (parts-of r) (frames-of r)) (whole-formula (parts-of r)) ≡ ([], whole-formula (parts-of q)) = sym (d .value) ∙ ap (λ (g : List Frame). (stack (parts-of q) g, whole-formula (parts-of q))) f in
+    let b = written-brief text (whole-formula (parts-of q)) (accepted-reads text (stack (parts-of r) (frames-of r)) (whole-formula (parts-of r)) (whole-formula (parts-of q)) ran v) in
+    let sh = h .short in
+    record { brief = omega arith; numbered = rw c l; nine = omega arith }
 
 having-same : (K L : List machine.Frame) (f g : Formula) → having K f ≡ having L g → (K ≡ L) × (f ≡ g)
 having-same K L f g e = (cc, cc)
@@ -68,12 +83,6 @@ left-open r n q s m d z K g h e k =
     let v : stack (parts-of q) (frames-of q) ≡ [] = ap (λ (x : List machine.Frame × Formula). x .0) (d .value ∙ ap₂ (reduce 0) (u .0) (u .1) ∙ k) in
     let w = ap (stack (parts-of q)) (frames-less q z (omega arith)) ∙ stack-push (formulas (parts-of q)) [] (frames-of (less-frame q)) (top-frame q) in
     cons-nil _ _ (sym w ∙ v)
-
--- the first i bytes of the text have been read
-pub record Progress (text : List ℕ) (i : ℕ) (r : Reader) : Type 0 where
-  pub sane : Sane r i
-  pub ran : run (wanting []) (take i text) ≡ state-of r
-  pub counted : temporals (take i text) ≡ r .temporals
 
 pub progress-start : (text : List ℕ) (r : Reader) → Sane r 0 → state-of r ≡ wanting [] → r .temporals ≡ 0 → Progress text 0 r
 progress-start text r s e t = record { sane = s; ran = sym e; counted = sym t }

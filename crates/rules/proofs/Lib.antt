@@ -2,3 +2,4 @@ pub mod Tables
 pub mod Reduce
 pub mod Steps
 pub mod Ends
+pub mod Texts

@@ -11,9 +11,9 @@ use Rattle.formulas.specs.declared.Part.{Part}
 use Rattle.formulas.specs.declared.Part.the-variants.{Constant, Unary, Binary}
 use Rattle.formulas.specs.Formula.{Formula, constant, temporal-prefix, temporal-infix}
 use Rattle.formulas.specs.Table.{formulas, locations, whole-formula, whole-locations, counted-from, sound}
-use Rattle.formulas.specs.Grammar.{right}
+use Rattle.formulas.specs.Grammar.{right, temporals}
 use Rattle.formulas.proofs.Machine as machine
-use Rattle.formulas.proofs.Machine.{State, wanting, having, dashed, failed, reduce, push, step, bracket, waiting, halfway}
+use Rattle.formulas.proofs.Machine.{State, wanting, having, dashed, failed, reduce, push, step, run, bracket, waiting, halfway}
 use Rattle.formulas.proofs.Sound.{Alive}
 use Rattle.formulas.proofs.Temporal.{temporal-of}
 use Rattle.faults.specs.declared.Cause.the-variants.{UnexpectedByte, TextTooShort, TooManyOperators}
@@ -204,6 +204,12 @@ Known (Letter a) = a < 16
 Known (Before op) = Unit {0}
 Known (Between op) = Unit {0}
 Known Unknown = Unit {0}
+
+-- the first i bytes of the text have been read
+pub record Progress (text : List ℕ) (i : ℕ) (r : Reader) : Type 0 where
+  pub sane : Sane r i
+  pub ran : run (wanting []) (take i text) ≡ state-of r
+  pub counted : temporals (take i text) ≡ r .temporals
 
 -- at the end of a text of n bytes: the rule, where nothing is open; else the text ends too early
 abbrev pub Finished : Reader → ℕ → Result Rule Fault → Type 0

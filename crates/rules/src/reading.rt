@@ -20,5 +20,5 @@ pub fn read(text: &[u8]) -> Result<Rule, Fault>
     for (place, byte) in text.iter().enumerate() {
         reader.step(*byte, place)?;
     }
-    reader.finish(text.len())
+    reader.finish(text)
 }

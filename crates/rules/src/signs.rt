@@ -1,5 +1,6 @@
-//! What each byte of a rule text is.
+//! What each byte of a rule text is, and the levels of the infix operators.
 ghost use mathlib.Core.Path.{_≡_};
+ghost use Rattle.formulas.specs.Grammar.{level, left, right};
 ghost use Rattle.formulas.specs.Sign.{sign};
 use formulas::Infix;
 use formulas::Prefix;
@@ -26,5 +27,39 @@ pub fn sign_of(byte: u8) -> Sign
         'U' => Sign::Between(Infix::Until),
         'R' => Sign::Between(Infix::Release),
         _ => Sign::Unknown,
+    }
+}
+
+/// The level of a text that an infix operator joins.
+pub fn infix_level(op: Infix) -> usize
+    ensures { λ r. ⌜ r ≡ level op ⌝ }
+{
+    match op {
+        Infix::Implies => 1,
+        Infix::Or => 2,
+        Infix::And => 3,
+        Infix::Until | Infix::Release => 4,
+    }
+}
+
+/// The level of what stands left of an infix operator.
+pub fn left_level(op: Infix) -> usize
+    ensures { λ r. ⌜ r ≡ left op ⌝ }
+{
+    match op {
+        Infix::Implies | Infix::Or => 2,
+        Infix::And => 3,
+        Infix::Until | Infix::Release => 5,
+    }
+}
+
+/// The level of what stands right of it.
+pub fn right_level(op: Infix) -> usize
+    ensures { λ r. ⌜ r ≡ right op ⌝ }
+{
+    match op {
+        Infix::Implies => 1,
+        Infix::Or => 3,
+        Infix::And | Infix::Until | Infix::Release => 4,
     }
 }

@@ -2,25 +2,11 @@
 ghost use mathlib.Core.Path.{_≡_};
 ghost use Prim.Native.Nat.{_+_, _<_, _≤_};
 ghost use lib.ListN.{length};
-ghost use Rattle.formulas.specs.Grammar.{right};
 ghost use Rattle.rules.specs.Reading.{Tables, Reduced, binds, with-part, with-frame, top-frame, completed, applied};
 use super::Frame;
 use super::Reader;
-use formulas::Infix;
+use crate::signs::right_level;
 use formulas::Part;
-
-/// The level at which an infix operator takes its right operand.
-fn right_level(op: Infix) -> usize
-    ensures { λ r. ⌜ r ≡ right op ⌝ }
-{
-    match op {
-        Infix::Implies => 1,
-        Infix::Or => 3,
-        Infix::And => 4,
-        Infix::Until => 4,
-        Infix::Release => 4,
-    }
-}
 
 /// How tight a frame binds its operand; 0 for a bracket, which only its closing sign ends.
 fn binding(frame: Frame) -> usize

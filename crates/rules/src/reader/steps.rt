@@ -2,20 +2,21 @@
 ghost use mathlib.Core.Path.{_≡_};
 ghost use mathlib.Core.List.{[]};
 ghost use Prim.Native.Nat.{_+_, _<_, _≤_};
+ghost use lib.ListN.{length};
 ghost use Rattle.faults.specs.declared.Cause.the-variants.{UnexpectedByte, TooManyOperators};
 ghost use Rattle.formulas.specs.Formula.{temporal-prefix, temporal-infix};
 ghost use Rattle.formulas.specs.declared.Sign.the-variants.{Close};
-ghost use Rattle.formulas.specs.Grammar.{level};
 ghost use Rattle.formulas.specs.Sign.{sign};
 ghost use Rattle.formulas.specs.Table.{counted-from};
 ghost use Rattle.formulas.proofs.Machine.{wanting};
 ghost use Rattle.rules.specs.Refusal.{rule-fault};
-ghost use Rattle.rules.specs.Reading.{Sane, Tables, Known, Located, Stepped, Joining, Finished, state-of, parts-of, frames-of, all-locations, in-mode, with-part};
+ghost use Rattle.rules.specs.Reading.{Sane, Tables, Known, Located, Stepped, Joining, Finished, Progress, state-of, parts-of, frames-of, all-locations, in-mode, with-part};
 ghost use Rattle.rules.specs.declared.reader.Mode.the-variants.{Wanting, Having, Dashed};
 use super::Frame;
 use super::Mode;
 use super::Reader;
 use crate::rule::Rule;
+use crate::signs::infix_level;
 use crate::signs::sign_of;
 use faults::Cause;
 use faults::Fault;
@@ -53,18 +54,6 @@ fn is_temporal_infix(op: Infix) -> bool
     match op {
         Infix::Implies | Infix::Or | Infix::And => false,
         Infix::Until | Infix::Release => true,
-    }
-}
-
-/// The level of a text that an infix operator joins.
-fn joined_level(op: Infix) -> usize
-    ensures { λ r. ⌜ r ≡ level op ⌝ }
-{
-    match op {
-        Infix::Implies => 1,
-        Infix::Or => 2,
-        Infix::And => 3,
-        Infix::Until | Infix::Release => 4,
     }
 }
 
@@ -201,7 +190,7 @@ impl Reader {
         ensures { λ r. ⌜ Joining (now (self .entry)) op place (now (self .exit)) r ⌝ }
     {
         let location = self.locate(is_temporal_infix(op), place)?;
-        self.reduce(joined_level(op), place);
+        self.reduce(infix_level(op), place);
         self.push_frame(Frame::Halfway(op, self.count - 1, location));
         self.mode = Mode::Wanting;
         Ok(())
@@ -221,11 +210,12 @@ impl Reader {
         }
     }
 
-    /// The rule, at the end of a text of that length.
-    pub fn finish(mut self, length: usize) -> Result<Rule, Fault>
-        requires { ⌜ Sane self length ⌝ }
-        ensures { λ r. ⌜ Finished self length r ⌝ }
+    /// The rule, at the end of the text.
+    pub fn finish(mut self, text: &[u8]) -> Result<Rule, Fault>
+        requires { ⌜ Progress (now text) (length (now text)) self ⌝ }
+        ensures { λ r. ⌜ Finished self (length (now (text .entry))) r ⌝ }
     {
+        let length = text.len();
         match self.mode {
             Mode::Wanting | Mode::Dashed => Err(refusal(Cause::TextTooShort, length)),
             Mode::Having => {

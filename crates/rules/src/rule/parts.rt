@@ -4,6 +4,7 @@ ghost use mathlib.Core.Bool.{true};
 ghost use Prim.Native.Nat.{_<_, _≤_};
 ghost use lib.ListN.{length, take};
 ghost use Rattle.formulas.specs.Formula.{operators};
+ghost use Rattle.formulas.specs.Written.{written};
 ghost use Rattle.formulas.specs.Table.{sound, counted-from, whole-formula, whole-locations};
 ghost use Rattle.rules.specs.Rules.{table, formula, numbering};
 use formulas::Part;
@@ -15,6 +16,7 @@ impl super::Rule {
         requires few { ⌜ count ≤ 128 ⌝ }
         requires operands { ⌜ sound (take count parts) ≡ true ⌝ }
         requires numbered { ⌜ whole-locations (take count parts) ≡ counted-from 1 (operators (whole-formula (take count parts))) ⌝ }
+        requires brief { ⌜ length (written (whole-formula (take count parts))) ≤ 128 ⌝ }
         requires nine { ⌜ operators (whole-formula (take count parts)) ≤ 9 ⌝ }
         ensures { λ r. ⌜ table r ≡ take count parts ⌝ }
     {
@@ -28,6 +30,7 @@ impl super::Rule {
         ensures few { λ r. ⌜ length (now r) ≤ 128 ⌝ }
         ensures operands { λ r. ⌜ sound (now r) ≡ true ⌝ }
         ensures numbered { λ _. ⌜ numbering (now (self .entry)) ≡ counted-from 1 (operators (formula (now (self .entry)))) ⌝ }
+        ensures brief { λ _. ⌜ length (written (formula (now (self .entry)))) ≤ 128 ⌝ }
         ensures nine { λ _. ⌜ operators (formula (now (self .entry))) ≤ 9 ⌝ }
     {
         &self.parts[0..self.count]

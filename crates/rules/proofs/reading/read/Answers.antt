@@ -4,7 +4,8 @@ use lib.ListN.{length}
 use native.Mathlib.Omega.{arith}
 use Rattle.std.proofs.shelf.Results.{err-from-errBy}
 use Rattle.rules.specs.Refusal.{too-long}
-use Rattle.rules.proofs.Ends.{Progress, progress-more, stopped-refused, finished-answered}
+use Rattle.rules.specs.Reading.{Progress}
+use Rattle.rules.proofs.Ends.{progress-more, stopped-refused, finished-answered}
 use Rattle.rules.proofs.reading.read.Needs as need
 
 pub returns-then-text-gt-LONGEST : need.returns-then-text-gt-LONGEST

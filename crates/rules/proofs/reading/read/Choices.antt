@@ -1,4 +1,4 @@
-use Rattle.rules.proofs.Ends.{Progress}
+use Rattle.rules.specs.Reading.{Progress}
 use Rattle.rules.proofs.reading.read.Given as given
 
 abbrev pub Inv-loop-place : given.InvT-loop-place
