@@ -3,3 +3,4 @@ pub mod Reduce
 pub mod Steps
 pub mod Ends
 pub mod Texts
+pub mod Theorems

@@ -1,3 +1,4 @@
 pub mod Rules
 pub mod Refusal
 pub mod Reading
+pub mod Laws
