@@ -116,9 +116,9 @@ five-ends out o1 o2 o3 o4 o5 at r1 r2 r3 r4 r5 a b c d e e1 s1 e2 s2 e3 s3 e4 s4
     (omega arith, s5 ∙ ap₂ (λ (o : List ℕ) (i : ℕ). sets o i e) t4 k4 ∙ sym (five-stores out at a b c d e))
 
 -- what was stored from the front on, read back
-pub front-stored : (l w o : List ℕ) (r : ℕ) → length w ≤ length l → r ≡ 0 + length w → o ≡ sets l 0 w → take (r - 0) o ≡ w
+pub front-stored : (l w o : List ℕ) (r : ℕ) → length w ≤ length l → r ≡ 0 + length w → o ≡ sets l 0 w → take r o ≡ w
 front-stored l w o r h e s =
-    let k : r - 0 ≡ length w = omega arith in
+    let k : r ≡ length w = omega arith in
     let h′ : 0 + length w ≤ length l = omega arith in
     let t : o ≡ w ++ drop (0 + length w) l = s ∙ sets-eq w l 0 h′ in
     rw (k, t) (take-append-seam w (drop (0 + length w) l))

@@ -6,7 +6,7 @@ use formulas::Infix;
 use formulas::Prefix;
 use formulas::Sign;
 
-pub fn sign_of(byte: u8) -> Sign
+pub(crate) fn sign_of(byte: u8) -> Sign
     ensures { λ r. ⌜ r ≡ sign byte ⌝ }
 {
     match char::from(byte) {
@@ -31,7 +31,7 @@ pub fn sign_of(byte: u8) -> Sign
 }
 
 /// The level of a text that an infix operator joins.
-pub fn infix_level(op: Infix) -> usize
+pub(crate) fn infix_level(op: Infix) -> usize
     ensures { λ r. ⌜ r ≡ level op ⌝ }
 {
     match op {
@@ -43,7 +43,7 @@ pub fn infix_level(op: Infix) -> usize
 }
 
 /// The level of what stands left of an infix operator.
-pub fn left_level(op: Infix) -> usize
+pub(crate) fn left_level(op: Infix) -> usize
     ensures { λ r. ⌜ r ≡ left op ⌝ }
 {
     match op {
@@ -54,7 +54,7 @@ pub fn left_level(op: Infix) -> usize
 }
 
 /// The level of what stands right of it.
-pub fn right_level(op: Infix) -> usize
+pub(crate) fn right_level(op: Infix) -> usize
     ensures { λ r. ⌜ r ≡ right op ⌝ }
 {
     match op {

@@ -32,7 +32,7 @@ fn complete(frame: Frame, operand: usize) -> Part
 }
 
 impl Reader {
-    pub fn push_part(&mut self, part: Part)
+    pub(crate) fn push_part(&mut self, part: Part)
         requires { ⌜ now self .count < 128 ⌝ }
         ensures { λ _. ⌜ now (self .exit) ≡ with-part (now (self .entry)) part ⌝ }
     {
@@ -40,7 +40,7 @@ impl Reader {
         self.count += 1;
     }
 
-    pub fn push_frame(&mut self, frame: Frame)
+    pub(crate) fn push_frame(&mut self, frame: Frame)
         requires { ⌜ now self .depth < 128 ⌝ }
         ensures { λ _. ⌜ now (self .exit) ≡ with-frame (now (self .entry)) frame ⌝ }
     {
@@ -63,7 +63,7 @@ impl Reader {
     }
 
     /// Every frame on top that binds tighter than `floor` takes its operand.
-    pub fn reduce(&mut self, floor: usize, place: usize)
+    pub(crate) fn reduce(&mut self, floor: usize, place: usize)
         requires tables { ⌜ Tables (now self) place ⌝ }
         requires short { ⌜ place ≤ 128 ⌝ }
         requires some { ⌜ 0 < now self .count ⌝ }

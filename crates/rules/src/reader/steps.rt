@@ -29,7 +29,7 @@ use formulas::Sign;
 /// The most temporal operators of a rule.
 const MOST_TEMPORALS: usize = 9;
 
-pub fn refusal(cause: Cause, place: usize) -> Fault
+pub(crate) fn refusal(cause: Cause, place: usize) -> Fault
     ensures { λ r. ⌜ r ≡ rule-fault cause place ⌝ }
 {
     Fault {
@@ -58,7 +58,7 @@ fn is_temporal_infix(op: Infix) -> bool
 }
 
 impl Reader {
-    pub fn new() -> Reader
+    pub(crate) fn new() -> Reader
         ensures sane { λ r. ⌜ Sane r 0 ⌝ }
         ensures state { λ r. ⌜ state-of r ≡ wanting [] ⌝ }
         ensures temporals { λ r. ⌜ r .temporals ≡ 0 ⌝ }
@@ -197,7 +197,7 @@ impl Reader {
     }
 
     /// The next byte of the text, at that place.
-    pub fn step(&mut self, byte: u8, place: usize) -> Result<(), Fault>
+    pub(crate) fn step(&mut self, byte: u8, place: usize) -> Result<(), Fault>
         requires sane { ⌜ Sane (now self) place ⌝ }
         requires more { ⌜ place < 128 ⌝ }
         ensures { λ r. ⌜ Stepped (now (self .entry)) (sign byte) place (now (self .exit)) r ⌝ }
@@ -211,7 +211,7 @@ impl Reader {
     }
 
     /// The rule, at the end of the text.
-    pub fn finish(mut self, text: &[u8]) -> Result<Rule, Fault>
+    pub(crate) fn finish(mut self, text: &[u8]) -> Result<Rule, Fault>
         requires { ⌜ Progress (now text) (length (now text)) self ⌝ }
         ensures { λ r. ⌜ Finished self (length (now (text .entry))) r ⌝ }
     {

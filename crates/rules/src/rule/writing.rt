@@ -3,7 +3,7 @@ ghost use mathlib.Core.Path.{_≡_};
 ghost use mathlib.Core.Bool.{true, cond};
 ghost use mathlib.Core.List.{[], _∷_};
 ghost use Prim.Native.Nat.{_+_, _<_, _≤_};
-ghost use lib.ListN.{length};
+ghost use lib.ListN.{length, take};
 ghost use lib.Seq.{sets};
 ghost use Rattle.faults.specs.Writing.{put-answer, put-list};
 ghost use Rattle.faults.specs.declared.Layer.the-variants.{Rule as RuleLayer};
@@ -27,10 +27,19 @@ impl super::Rule {
         ensures answer { λ r. ⌜ r ≡ put-answer RuleLayer (written (formula (now (self .entry)))) (now (out .entry)) ⌝ }
         ensures list { λ _. ⌜ now (out .exit) ≡ put-list (written (formula (now (self .entry)))) (now (out .entry)) ⌝ }
     {
-        let parts = self.parts();
         let mut text = [0u8; 128];
-        let count = emit(parts, parts.len() - 1, 1, &mut text, 0);
+        let count = self.render(&mut text);
         faults::put(&text[0..count], out, Layer::Rule)
+    }
+
+    /// Writes the rule's text into the front of a buffer that is long enough for every rule.
+    fn render(&self, text: &mut [u8]) -> usize
+        requires { ⌜ length (now text) ≡ 128 ⌝ }
+        ensures within { λ r. ⌜ r ≤ 128 ⌝ }
+        ensures front { λ r. ⌜ take r (now (text .exit)) ≡ written (formula (now (self .entry))) ⌝ }
+    {
+        let parts = self.parts();
+        emit(parts, parts.len() - 1, 1, text, 0)
     }
 }
 
