@@ -6,8 +6,8 @@ ghost use denote.Ref.{now};
 ghost use lib.ListN.{length, getD};
 ghost use Rattle.lassos.specs.Bytes.{byte-labels};
 
-/// A list of labels. Bit 0 of a label is letter a, bit 15 letter p.
-pub trait Labels {
+/// A list of labels, lent. Bit 0 of a label is letter a, bit 15 letter p.
+pub trait Labels: Copy {
     ghost list: { Self → List ℕ };
 
     /// How many labels there are.

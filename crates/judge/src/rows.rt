@@ -36,6 +36,8 @@ fn letter_row<L: Labels>(labels: &L, letter: u8, to: usize, work: &mut [u8])
     requires room { ⌜ to + length (L·Labels .list (now labels)) ≤ length (now work) ⌝ }
     ensures { λ _. ⌜ Filled (now (work .entry)) (now (work .exit)) to (length (L·Labels .list (now (labels .entry)))) (λ i. has (getD (L·Labels .list (now (labels .entry))) i 0) letter) ⌝ }
 {
+    // A copy of its own, so that writes to the work do not make the loop look for the labels anew.
+    let labels = *labels;
     for i in 0..labels.count() {
         let label = labels.label(i);
         work[to + i] = ((label >> letter) % 2 == 1) as u8;
