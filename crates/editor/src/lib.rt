@@ -42,12 +42,7 @@ pub extern "C" fn presscheck_judge(
     }
 }
 
-fn judge_text(
-    text: &[u8],
-    labels: &[u8],
-    lead_in: usize,
-    work: &mut [u8],
-) -> Result<bool, Fault>
+fn judge_text(text: &[u8], labels: &[u8], lead_in: usize, work: &mut [u8]) -> Result<bool, Fault>
     ensures answer { λ r. ⌜ Judged-text (now (text .entry)) (now (labels .entry)) «lead_in» (length (now (work .entry))) r ⌝ }
     ensures unchanged { λ r. ⌜ (isOk r ≡ false → now (work .exit) ≡ now (work .entry)) ⌝ }
 {

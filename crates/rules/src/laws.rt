@@ -1,30 +1,22 @@
-//! Theorems about rule texts, each on the contract of a function of its name.
+//! Laws of rule texts. Each is the contract of a function that does nothing.
 ghost use Rattle.rules.specs.Laws.{One-formula, One-answer, Shortest, Worked};
 
 /// A text has at most one formula.
-pub fn a_text_has_one_formula() -> bool
+pub fn one_formula()
     ensures { λ _. ⌜ One-formula ⌝ }
-{
-    true
-}
+{}
 
 /// What `read` may answer is fixed for each text: one formula or one refusal, and never both.
-pub fn a_text_has_one_answer() -> bool
+pub fn one_answer()
     ensures { λ _. ⌜ One-answer ⌝ }
-{
-    true
-}
+{}
 
 /// The text that `write` gives reads back as the same formula, and is the only shortest text of it.
-pub fn the_written_text_is_shortest() -> bool
+pub fn shortest_text()
     ensures { λ _. ⌜ Shortest ⌝ }
-{
-    true
-}
+{}
 
 /// The worked examples, as one statement over the definitions.
-pub fn the_worked_texts_hold() -> bool
+pub fn worked_texts()
     ensures { λ _. ⌜ Worked ⌝ }
-{
-    true
-}
+{}
