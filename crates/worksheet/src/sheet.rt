@@ -1,4 +1,7 @@
 //! What is kept from line to line, and one line performed.
+use crate::journeys::Journey;
+use crate::journeys::read_journey;
+use crate::journeys::read_journey_hex;
 use crate::page::Page;
 use crate::words::Words;
 use crate::words::hex_bytes;
@@ -12,11 +15,16 @@ use std::alloc::Global;
 pub struct Sheet {
     heap: Global,
     rule: Option<Rule>,
+    journey: Option<Journey>,
 }
 
 impl Sheet {
     pub fn new(heap: Global) -> Sheet {
-        Sheet { heap, rule: None }
+        Sheet {
+            heap,
+            rule: None,
+            journey: None,
+        }
     }
 
     /// One line; an empty one, and one that begins with `#`, does nothing.
@@ -31,10 +39,55 @@ impl Sheet {
             self.read_rule_hex(rest, page)
         } else if command == b"write" {
             self.write_rule(rest, page)
+        } else if command == b"journey" {
+            let journey = read_journey(self.heap, rest)?;
+            self.keep_journey(journey, page)
+        } else if command == b"journey-hex" {
+            let journey = read_journey_hex(self.heap, rest)?;
+            self.keep_journey(journey, page)
+        } else if command == b"judge" {
+            self.judge_journey(rest, page)
         } else if command == b"help" {
             help(page)
         } else {
             page.unknown(b"no such line; try help")
+        }
+    }
+
+    fn keep_journey(
+        &mut self,
+        journey: Option<Journey>,
+        page: &mut Page,
+    ) -> Result<(), AllocError> {
+        let Some(journey) = journey else {
+            return page.unknown(b"a lead-in is wanted, and then labels");
+        };
+        page.text(b"= ")?;
+        page.number(journey.labels.len())?;
+        page.text(b" ")?;
+        page.number(journey.lead_in)?;
+        self.journey = Some(journey);
+        page.text(b"\n")
+    }
+
+    fn judge_journey(&mut self, rest: &[u8], page: &mut Page) -> Result<(), AllocError> {
+        let Some(rule) = self.rule else {
+            return page.unknown(b"no rule is kept");
+        };
+        let Some(journey) = &self.journey else {
+            return page.unknown(b"no journey is kept");
+        };
+        let need = journey.labels.len().saturating_mul(128);
+        let Some(room) = room(rest, need) else {
+            return page.unknown(b"a room is a decimal number");
+        };
+        let Ok(mut work) = vec![in self.heap; 0u8; room] else {
+            return page.unknown(b"there is not so much memory");
+        };
+        match journey.judged_by(&rule, work.as_mut_slice()) {
+            Err(fault) => page.refusal(fault),
+            Ok(true) => page.text(b"= true\n"),
+            Ok(false) => page.text(b"= false\n"),
         }
     }
 
@@ -68,13 +121,8 @@ impl Sheet {
         let Some(rule) = self.rule else {
             return page.unknown(b"no rule is kept");
         };
-        let mut words = Words::new(rest);
-        let room = match words.next() {
-            None => written_length(&rule),
-            Some(word) => match room_of(word) {
-                None => return page.unknown(b"a room is a decimal number"),
-                Some(room) => room,
-            },
+        let Some(room) = room(rest, written_length(&rule)) else {
+            return page.unknown(b"a room is a decimal number");
         };
         let Ok(mut out) = vec![in self.heap; 0u8; room] else {
             return page.unknown(b"there is not so much memory");
@@ -100,10 +148,17 @@ fn written_length(rule: &Rule) -> usize {
     }
 }
 
-fn room_of(word: &[u8]) -> Option<usize> {
-    match number(word) {
-        Some(n) => Some(n as usize),
-        None => None,
+/// The room that a line gives, or what is needed where it gives none. None where it gives something else.
+fn room(rest: &[u8], need: usize) -> Option<usize> {
+    let mut words = Words::new(rest);
+    let Some(word) = words.next() else {
+        return Some(need);
+    };
+    let room = number(word)?;
+    if words.at_end() {
+        Some(room as usize)
+    } else {
+        None
     }
 }
 
@@ -111,5 +166,10 @@ fn help(page: &mut Page) -> Result<(), AllocError> {
     page.detail(b"rule TEXT         reads a rule and keeps it")?;
     page.detail(b"rule-hex BYTES    the same, from bytes in hexadecimal")?;
     page.detail(b"write [ROOM]      writes the kept rule out, into a list of that length")?;
+    page.detail(
+        b"journey LEAD LETTERS ..    keeps a journey: its lead-in, and a label for each word",
+    )?;
+    page.detail(b"journey-hex LEAD BYTES     the same, two bytes for each label, the least first")?;
+    page.detail(b"judge [ROOM]      judges the kept journey by the kept rule")?;
     page.done()
 }

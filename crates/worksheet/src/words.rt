@@ -129,3 +129,24 @@ pub fn hex_bytes(heap: Global, word: &[u8]) -> Result<Option<Vec<u8>>, AllocErro
     }
     Ok(Some(bytes))
 }
+
+/// A label: letters a to p, `-` for none, or a decimal number below 65,536.
+pub fn label(word: &[u8]) -> Option<u16> {
+    if word == b"-" {
+        return Some(0);
+    }
+    if let Some(n) = number(word) {
+        return if n < 65536 { Some(n as u16) } else { None };
+    }
+    if word.is_empty() {
+        return None;
+    }
+    let mut label = 0u16;
+    for b in word {
+        match *b {
+            b'a'..=b'p' => label |= 1 << (*b - b'a'),
+            _ => return None,
+        }
+    }
+    Some(label)
+}
