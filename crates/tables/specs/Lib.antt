@@ -1,2 +1,4 @@
 pub mod Table
 pub mod Layers
+pub mod Drawings
+pub mod Cells

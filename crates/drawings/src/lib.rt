@@ -1,0 +1,2 @@
+//! Dialogues that are kept: drawings, which are changed call by call, and files, which are read where they lie.
+pub mod drawing;

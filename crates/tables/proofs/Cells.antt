@@ -1,0 +1,74 @@
+-- A drawing's lists keep the limits, and each write to them is the change of the table that the call asks for.
+use mathlib.Core.Path.{_≡_, refl, sym, ap, subst, _∙_}
+use mathlib.Core.List.{List}
+use mathlib.Core.Logic.{inl, inr}
+use mathlib.Core.Bool.{Bool, true, false, _&&_, cond}
+use Prim.Native.Nat.{ℕ, zero, suc, _+_, _-_, _*_, _/_, _%_, _^_, _<_, _≤_}
+use native.Mathlib.Omega.{arith}
+use lib.Dec.{ltb, leb, eqb}
+use lib.ListN.{length, getD, set, replicate}
+use Rattle.std.specs.declared.option.Option.{Option}
+use Rattle.std.specs.declared.option.Option.the-variants.{Some, None}
+use Rattle.std.proofs.shelf.Ways.{tells}
+use Rattle.std.proofs.shelf.Lists.{getD-set-same, getD-set-other}
+use Rattle.std.proofs.shelf.Tests.{cond-both, eqb-true, cases-eq}
+use Rattle.tables.specs.Table.{Table, Formed}
+use Rattle.tables.specs.Cells.{cells, Within, Clear}
+use Rattle.tables.specs.Drawings.{blank, appended, relabelled, redirected}
+
+-- two tables are equal where each of their answers is
+pub same-tables : (a b : Table) → a .states ≡ b .states → a .events ≡ b .events → ((s : ℕ) → a .start s ≡ b .start s) → ((s : ℕ) → a .label s ≡ b .label s) → ((s e : ℕ) → a .next s e ≡ b .next s e) → a ≡ b
+same-tables a b states events start label next =
+    λ i. record { states = states i; events = events i; start = λ s. start s i; label = λ s. label s i; next = λ s e. next s e i }
+
+pub cells-formed : (count : ℕ) (starts : List Bool) (labels : List ℕ) (next : List (Option ℕ)) → count ≤ 64 → ((s : ℕ) → getD labels s 0 < 65536) → Within count next → Clear count next → Formed (cells count starts labels next)
+cells-formed count starts labels next few fit within clear =
+    record {
+      few-states = omega arith;
+      few-events = omega arith;
+      label-fits = λ s. cond-both (ltb s count) (getD labels s 0) 0 (λ x. x < 2 ^ 16) (λ _. fit s) (λ _. omega arith);
+      next-exists = λ s e t. cond-both (ltb e 16) (getD next (s * 16 + e) None) None (λ o. o ≡ Some t → t < count) (λ _ h. within _ t h) (λ _ h. grind arith);
+      absent-start = λ s h. grind (arith, tells);
+      absent-label = λ s h. grind (arith, tells);
+      absent-state = λ s e h. cond-both (ltb e 16) (getD next (s * 16 + e) None) None (λ o. o ≡ None) (λ _. clear _ (omega arith)) (λ _. refl);
+      absent-event = λ s e h. grind (arith, tells)
+    }
+
+pub appends : (count : ℕ) (starts : List Bool) (labels : List ℕ) (next : List (Option ℕ)) (label : ℕ) (start : Bool) → count < length starts → count < length labels → Clear count next → cells (count + 1) (set starts count start) (set labels count label) next ≡ appended (cells count starts labels next) label start
+appends count starts labels next label start a b clear =
+    same-tables _ _ refl refl (λ s. grind (arith, tells, getD-set-same, getD-set-other)) (λ s. grind (arith, tells, getD-set-same, getD-set-other))
+    (λ s e. cond-both (eqb s count) None (cond (ltb e 16) (getD next (s * 16 + e) None) None) (λ o. cond (ltb e 16) (getD next (s * 16 + e) None) None ≡ o)
+    (λ is. let k : count * 16 ≤ s * 16 + e = omega (arith, eqb-true s count is) in let none = clear (s * 16 + e) k in grind (arith, tells)) (λ _. refl))
+
+pub relabels : (count : ℕ) (starts : List Bool) (labels : List ℕ) (next : List (Option ℕ)) (state label : ℕ) (start : Bool) → state < count → count ≤ length starts → count ≤ length labels → cells count (set starts state start) (set labels state label) next ≡ relabelled (cells count starts labels next) state label start
+relabels count starts labels next state label start h a b =
+    same-tables _ _ refl refl (λ s. grind (arith, tells, getD-set-same, getD-set-other)) (λ s. grind (arith, tells, getD-set-same, getD-set-other)) (λ s e. refl)
+
+pub redirects : (count : ℕ) (starts : List Bool) (labels : List ℕ) (next : List (Option ℕ)) (from event : ℕ) (to : Option ℕ) → event < 16 → from * 16 + event < length next → cells count starts labels (set next (from * 16 + event) to) ≡ redirected (cells count starts labels next) from event to
+redirects count starts labels next from event to h a =
+    same-tables _ _ refl refl (λ s. refl) (λ s. refl) (λ s e. grind (arith, tells, getD-set-same, getD-set-other))
+
+pub within-set : (count : ℕ) (next : List (Option ℕ)) (i : ℕ) (to : Option ℕ) → i < length next → ((t : ℕ) → to ≡ Some t → t < count) → Within count next → Within count (set next i to)
+within-set count next i to h new within k t is =
+    elim (cases-eq k i) [ inl e ↦ new t (sym (getD-set-same next i to None h) ∙ (sym (ap (λ (j : ℕ). getD (set next i to) j None) e) ∙ is)) | inr ne ↦ within k t (sym (getD-set-other next i k to None ne) ∙ is) ]
+
+pub clear-set : (count : ℕ) (next : List (Option ℕ)) (i : ℕ) (to : Option ℕ) → i < count * 16 → Clear count next → Clear count (set next i to)
+clear-set count next i to h clear k past = getD-set-other next i k to None (omega arith) ∙ clear k past
+
+pub fit-set : (labels : List ℕ) (i label : ℕ) → i < length labels → label < 65536 → ((s : ℕ) → getD labels s 0 < 65536) → (s : ℕ) → getD (set labels i label) s 0 < 65536
+fit-set labels i label h new fit s =
+    elim (cases-eq s i) [ inl e ↦ rw e (rw (getD-set-same labels i label 0 h) new) | inr ne ↦ rw (getD-set-other labels i s label 0 ne) (fit s) ]
+
+pub getD-same : {X : Type 0} (n i : ℕ) (d : X) → getD (replicate n d) i d ≡ d
+getD-same zero i d = refl
+getD-same (suc n) zero d = refl
+getD-same (suc n) (suc i) d = getD-same n i d
+
+-- no states, however long the lists are
+pub blanks : (starts : List Bool) (labels : List ℕ) (n : ℕ) → cells 0 starts labels (replicate n None) ≡ blank
+blanks starts labels n =
+    same-tables (cells 0 starts labels (replicate n None)) blank refl refl (λ s. grind (arith, tells)) (λ s. grind (arith, tells))
+    (λ s e. cond-both (ltb e 16) (getD (replicate n None) (s * 16 + e) None) None (λ o. o ≡ None) (λ _. getD-same n (s * 16 + e) None) (λ _. refl))
+
+pub blank-within : (n : ℕ) → Within 0 (replicate n None)
+blank-within n k t is = let z : _≡_ {A = ℕ} 0 1 = cc (getD-same {X = Option ℕ} n k None) in absurd (omega arith)
