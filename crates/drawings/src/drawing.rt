@@ -5,7 +5,8 @@ ghost use lib.ListN.{length, getD};
 ghost use Rattle.tables.specs.Cells.{Within, Clear};
 
 mod calls;
-mod questions;
+pub mod names;
+pub mod questions;
 
 /// How many states a drawing has room for.
 const ROOM: usize = 64;

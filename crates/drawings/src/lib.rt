@@ -1,2 +1,3 @@
 //! Dialogues that are kept: drawings, which are changed call by call, and files, which are read where they lie.
+pub mod checks;
 pub mod drawing;

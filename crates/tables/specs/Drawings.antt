@@ -2,6 +2,9 @@
 -- are counted from 1. A refused call alters nothing.
 use mathlib.Core.Bool.{Bool, true, false, _&&_, cond}
 use Prim.Native.Nat.{ℕ, _+_}
+use mathlib.Core.List.{List, [], _∷_}
+use lib.Chars.{codes}
+use lib.ListN.{getD}
 use lib.Dec.{ltb, leb, eqb}
 use Rattle.std.specs.declared.option.Option.{Option}
 use Rattle.std.specs.declared.option.Option.the-variants.{Some, None}
@@ -101,3 +104,11 @@ cut-answer table from event =
 
 abbrev pub after-cut : Table → ℕ → ℕ → Table
 after-cut table from event = after (cut-answer table from event) (redirected table from event None) table
+
+-- The names of the events.
+abbrev pub keys : List (List ℕ)
+keys =
+    codes "Service" ∷ codes "Adult" ∷ codes "Child" ∷ codes "Return" ∷ codes "Single" ∷ codes "Card" ∷ codes "Lift" ∷ codes "Tag" ∷ codes "Cash" ∷ codes "Change" ∷ codes "Print" ∷ codes "Cancel" ∷ codes "Stage" ∷ codes "Login" ∷ codes "Logout" ∷ codes "Timeout" ∷ []
+
+abbrev pub key-name : ℕ → List ℕ
+key-name e = getD keys e []

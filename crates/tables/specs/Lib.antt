@@ -2,3 +2,4 @@ pub mod Table
 pub mod Layers
 pub mod Drawings
 pub mod Cells
+pub mod Files
