@@ -1,3 +1,4 @@
 pub mod Layers
 pub mod Cells
 pub mod Checks
+pub mod Files
