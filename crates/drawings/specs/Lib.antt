@@ -1,1 +1,3 @@
 pub mod Drawn
+pub mod Read
+pub mod Opened

@@ -4,7 +4,8 @@ ghost use mathlib.Core.Path.{_≡_};
 ghost use Prim.Native.Nat.{_+_, _*_, _<_, _≤_};
 ghost use lib.ListN.{length};
 ghost use Rattle.std.specs.declared.option.Option.the-variants.{None};
-ghost use Rattle.tables.specs.Files.{word as word-at, file-fault, mark-wrong, whole-fault, told, header-fault, state-fault, states-fault, press-place, press-fault, place-fault, press-allowed, press-key as key-at, is-end as is-end-at, Ends};
+ghost use Rattle.drawings.specs.Read.{Outlined};
+ghost use Rattle.tables.specs.Files.{fault-of, word as word-at, file-fault, mark-wrong, whole-fault, told, header-fault, state-fault, states-fault, press-place, press-fault, place-fault, press-allowed, press-key as key-at, is-end as is-end-at, Ends};
 use faults::Cause;
 use faults::Fault;
 use faults::Layer;
@@ -115,7 +116,10 @@ fn is_press_allowed(bytes: &[u8], states: usize, events: usize, k: usize) -> boo
     ensures { λ r. ⌜ r ≡ press-allowed (now (bytes .entry)) states events k ⌝ }
 {
     let at = STATE_SIZE + STATE_SIZE * states + PRESS_SIZE * k;
-    if word(bytes, at + 2) >= states || bytes[at + 4] as usize >= events || word(bytes, at + 5) >= states {
+    if word(bytes, at + 2) >= states
+        || bytes[at + 4] as usize >= events
+        || word(bytes, at + 5) >= states
+    {
         return false;
     }
     k == 0 || press_key(bytes, at - PRESS_SIZE) < press_key(bytes, at)
@@ -180,4 +184,36 @@ fn check_presses(bytes: &[u8], states: usize, events: usize) -> Result<usize, Fa
         return Err(refusal(Cause::TrailingBytes, end));
     }
     Ok(k)
+}
+
+/// How many states, events and presses a good file has.
+#[derive(Clone, Copy)]
+pub struct Outline {
+    pub states: usize,
+    pub events: usize,
+    pub presses: usize,
+}
+
+/// Goes through a file once, up to its earliest fault.
+pub fn read_file(bytes: &[u8]) -> Result<Outline, Fault>
+    ensures { λ r. ⌜ Outlined (now (bytes .entry)) r ⌝ }
+{
+    check_header(bytes)?;
+    let states = word(bytes, 2);
+    let events = bytes[4] as usize;
+    check_states(bytes, states)?;
+    let presses = check_presses(bytes, states, events)?;
+    Ok(Outline {
+        states,
+        events,
+        presses,
+    })
+}
+
+/// Tells what is wrong with a file, if anything is.
+pub fn check_file(bytes: &[u8]) -> Result<(), Fault>
+    ensures { λ r. ⌜ r ≡ told (fault-of (now (bytes .entry))) ⌝ }
+{
+    read_file(bytes)?;
+    Ok(())
 }

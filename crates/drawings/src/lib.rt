@@ -1,3 +1,4 @@
 //! Dialogues that are kept: drawings, which are changed call by call, and files, which are read where they lie.
 pub mod checks;
 pub mod drawing;
+pub mod file;

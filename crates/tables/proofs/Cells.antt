@@ -31,7 +31,7 @@ cells-formed count starts labels next few fit within clear =
       absent-start = λ s h. grind (arith, tells);
       absent-label = λ s h. grind (arith, tells);
       absent-state = λ s e h. cond-both (ltb e 16) (getD next (s * 16 + e) None) None (λ o. o ≡ None) (λ _. clear _ (omega arith)) (λ _. refl);
-      absent-event = λ s e h. grind (arith, tells)
+      absent-event = λ s e h. grind (arith, tells);
     }
 
 pub appends : (count : ℕ) (starts : List Bool) (labels : List ℕ) (next : List (Option ℕ)) (label : ℕ) (start : Bool) → count < length starts → count < length labels → Clear count next → cells (count + 1) (set starts count start) (set labels count label) next ≡ appended (cells count starts labels next) label start

@@ -68,11 +68,13 @@ module _ (bytes : List ℕ) where
   pub states-stop : {f : Fault} (i n : ℕ) → i < n → states-fault bytes i ≡ None → state-fault bytes (state-place i) ≡ Some f → states-fault bytes n ≡ Some f
   states-stop i zero h before here = absurd (omega arith)
   states-stop {f} i (suc n) h before here =
-      elim (decLt i n) [ yes lt ↦ other-stop _ _ (states-stop i n lt before here)
-      | no ge ↦ let is : i ≡ n = omega arith in
-      let start : states-fault bytes n ≡ None = rw (sym is) before in
-      let stop : state-fault bytes (state-place n) ≡ Some f = rw (sym is) here in
-      other-skip (states-fault bytes n) (state-fault bytes (state-place n)) start ∙ stop ]
+      elim (decLt i n) [
+        | yes lt ↦ other-stop _ _ (states-stop i n lt before here)
+        | no ge ↦ let is : i ≡ n = omega arith in
+            let start : states-fault bytes n ≡ None = rw (sym is) before in
+            let stop : state-fault bytes (state-place n) ≡ Some f = rw (sym is) here in
+            other-skip (states-fault bytes n) (state-fault bytes (state-place n)) start ∙ stop
+      ]
 
   module _ (n m : ℕ) where
     pub place-whole : (k : ℕ) → place-fault bytes n m k ≡ None → press-place n k + 2 ≤ length bytes

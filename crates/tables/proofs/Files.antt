@@ -40,8 +40,10 @@ module _ (bytes : List ℕ) where
   state-good : (n : ℕ) → states-fault bytes n ≡ None → (i : ℕ) → i < n → state-fault bytes (state-place i) ≡ None
   state-good zero e i h = absurd (omega arith)
   state-good (suc n) e i h =
-      elim (decLt i n) [ yes lt ↦ state-good n (other-none _ _ e .0) i lt
-      | no ge ↦ let is : i ≡ n = omega arith in rw is (other-none (states-fault bytes n) _ e .1) ]
+      elim (decLt i n) [
+        | yes lt ↦ state-good n (other-none _ _ e .0) i lt
+        | no ge ↦ let is : i ≡ n = omega arith in rw is (other-none (states-fault bytes n) _ e .1)
+      ]
 
   states-good : (n : ℕ) → ((i : ℕ) → i < n → state-fault bytes (state-place i) ≡ None) → states-fault bytes n ≡ None
   states-good zero each = refl
@@ -58,16 +60,17 @@ module _ (bytes : List ℕ) where
       pub long : length bytes ≡ 7 + 5 * n + 7 * p
 
     closes-on : (k : ℕ) → is-end bytes (press-place n k) ≡ false → place-fault bytes n m k ≡ None → (p : ℕ) × Closes (k + 1) p → (p : ℕ) × Closes k p
-    closes-on k on fine (p, c) =
-        (p,
-        record {
-          from-here = omega (arith, c .from-here);
-          going = λ j a b. elim (decLt k j) [ yes lt ↦ c .going j (omega arith) b | no ge ↦ let is : j ≡ k = omega arith in rw is on ];
-          good = λ j a b. elim (decLt k j) [ yes lt ↦ c .good j (omega arith) b | no ge ↦ let is : j ≡ k = omega arith in rw is fine ];
-          ends = c .ends;
-          end-good = c .end-good;
-          long = c .long
-        })
+    closes-on k on fine (p, c) = (
+      p,
+      record {
+        from-here = omega (arith, c .from-here);
+        going = λ j a b. elim (decLt k j) [ yes lt ↦ c .going j (omega arith) b | no ge ↦ let is : j ≡ k = omega arith in rw is on ];
+        good = λ j a b. elim (decLt k j) [ yes lt ↦ c .good j (omega arith) b | no ge ↦ let is : j ≡ k = omega arith in rw is fine ];
+        ends = c .ends;
+        end-good = c .end-good;
+        long = c .long;
+      },
+    )
 
     closes-here : (k : ℕ) → is-end bytes (press-place n k) ≡ true → place-fault bytes n m k ≡ None → leb (length bytes) (press-place n k + 2) ≡ true → Closes k k
     closes-here k end fine last =
@@ -77,18 +80,19 @@ module _ (bytes : List ℕ) where
           good = λ j a b. absurd (omega arith);
           ends = end;
           end-good = fine;
-          long = omega (arith, leb-true _ _ last, place-whole bytes n m k fine)
+          long = omega (arith, leb-true _ _ last, place-whole bytes n m k fine);
         }
 
     closes : (left k : ℕ) → length bytes ≤ left + k → press-place n k ≤ length bytes → tail-fault bytes n m left k ≡ None → (p : ℕ) × Closes k p
     closes zero k enough h e = absurd (omega arith)
     closes (suc left) k enough h e =
         let parts = other-none (place-fault bytes n m k) _ e in
-        elim (cases-bool (is-end bytes (press-place n k)))
-        [ inl end ↦ (k, closes-here k end (parts .0) (unless-none _ _ (sym (cond-true _ _ _ end) ∙ parts .1)))
-        | inr on ↦ closes-on k on (parts .0) (closes left (k + 1) (omega arith) (omega (arith, press-whole bytes n m k on (parts .0) .1)) (sym (cond-false _ _ _ on) ∙ parts .1)) ]
+        elim (cases-bool (is-end bytes (press-place n k))) [
+          | inl end ↦ (k, closes-here k end (parts .0) (unless-none _ _ (sym (cond-true _ _ _ end) ∙ parts .1)))
+          | inr on ↦ closes-on k on (parts .0) (closes left (k + 1) (omega arith) (omega (arith, press-whole bytes n m k on (parts .0) .1)) (sym (cond-false _ _ _ on) ∙ parts .1))
+        ]
 
-  states-room : (n : ℕ) → 5 ≤ length bytes → states-fault bytes n ≡ None → press-place n 0 ≤ length bytes
+  pub states-room : (n : ℕ) → 5 ≤ length bytes → states-fault bytes n ≡ None → press-place n 0 ≤ length bytes
   states-room zero h e = omega arith
   states-room (suc i) h e = omega (arith, state-whole bytes (state-place i) (other-none (states-fault bytes i) _ e .1))
 
@@ -131,7 +135,7 @@ module _ (bytes : List ℕ) where
 
   -- a file without a fault is one that the layout allows,
   pub accepted-layout : fault-of bytes ≡ None → (p : ℕ) × Layout bytes (file-states bytes) (file-events bytes) p
-  accepted-layout e = 
+  accepted-layout e =
       let n = file-states bytes in
       let m = file-events bytes in
       let a = other-none (header-fault bytes) _ e in
@@ -140,28 +144,46 @@ module _ (bytes : List ℕ) where
       let begun = whole bytes 0 72 72 5 (head .0) in
       let limits = limited _ _ (unless-none _ _ (head .1)) in
       let room : press-place n 0 ≤ length bytes = states-room n (begun .1) (b .0) in
-      let (p, c) = closes n m (length bytes) 0 (omega arith) room (b .1) in
-      (p,
-      record {
-        long = c .long;
-        header = same-mark bytes 0 72 (begun .0) (omega arith);
-        states-are = refl;
-        events-are = refl;
-        few-states = limits .0;
-        some-events = limits .1;
-        few-events = limits .2;
-        state = λ i h. state-marked (state-place i) (state-good n (b .0) i h);
-        start = λ i h. state-start (state-place i) (state-good n (b .0) i h);
-        press = λ k h. press-marked n m k (c .going k (omega arith) h) (c .good k (omega arith) h);
-        from = λ k h. allows n m k (press-fine n m k (c .going k (omega arith) h) (c .good k (omega arith) h)) .0;
-        event = λ k h. allows n m k (press-fine n m k (c .going k (omega arith) h) (c .good k (omega arith) h)) .1;
-        to = λ k h. allows n m k (press-fine n m k (c .going k (omega arith) h) (c .good k (omega arith) h)) .2;
-        rises = λ k h. rises-on n k (allows n m (suc k) (press-fine n m (suc k) (c .going (suc k) (omega arith) h) (c .good (suc k) (omega arith) h)) .3);
-        end = end-marked n m p (c .ends) (c .end-good)
-      })
+      let (p, c) = closes n m (length bytes) 0 (omega arith) room (b .1) in (
+        p,
+        record {
+          long = c .long;
+          header = same-mark bytes 0 72 (begun .0) (omega arith);
+          states-are = refl;
+          events-are = refl;
+          few-states = limits .0;
+          some-events = limits .1;
+          few-events = limits .2;
+          state = λ i h. state-marked (state-place i) (state-good n (b .0) i h);
+          start = λ i h. state-start (state-place i) (state-good n (b .0) i h);
+          press = λ k h. press-marked n m k (c .going k (omega arith) h) (c .good k (omega arith) h);
+          from = λ k h. allows n m k (press-fine n m k (c .going k (omega arith) h) (c .good k (omega arith) h)) .0;
+          event = λ k h. allows n m k (press-fine n m k (c .going k (omega arith) h) (c .good k (omega arith) h)) .1;
+          to = λ k h. allows n m k (press-fine n m k (c .going k (omega arith) h) (c .good k (omega arith) h)) .2;
+          rises = λ k h. rises-on n k (allows n m (suc k) (press-fine n m (suc k) (c .going (suc k) (omega arith) h) (c .good (suc k) (omega arith) h)) .3);
+          end = end-marked n m p (c .ends) (c .end-good);
+        },
+      )
     where
       limited : (n m : ℕ) → (leb n 4096 && leb 1 m && leb m 64) ≡ true → (n ≤ 4096) × (0 < m) × (m ≤ 64)
       limited n m e = (grind (arith, tells), grind (arith, tells), grind (arith, tells))
+
+  pub header-begun : header-fault bytes ≡ None → (file-states bytes ≤ 4096) × (5 ≤ length bytes)
+  header-begun e =
+      let head = other-none (whole-fault bytes 0 72 72 5) _ e in
+      let w = whole bytes 0 72 72 5 (head .0) in
+      let limits = and-parts _ _ (and-parts _ _ (unless-none _ _ (head .1)) .0) in
+      (leb-true _ _ (limits .0), omega (arith, w .1))
+
+  -- a file whose parts are all read without a fault, and whose length is that of p presses
+  pub read-through : (n p : ℕ) → n ≡ file-states bytes → header-fault bytes ≡ None → states-fault bytes n ≡ None → tail-fault bytes n (file-events bytes) (length bytes) 0 ≡ None → length bytes ≡ 7 + 5 * n + 7 * p → (fault-of bytes ≡ None) × Layout bytes n (file-events bytes) p
+  read-through n p is a b c long =
+      let b′ : states-fault bytes (file-states bytes) ≡ None = rw is at b in
+      let c′ : tail-fault bytes (file-states bytes) (file-events bytes) (length bytes) 0 ≡ None = rw is at c in
+      let good : fault-of bytes ≡ None = other-skip (header-fault bytes) _ a ∙ (other-skip (states-fault bytes (file-states bytes)) _ b′ ∙ c′) in
+      let (q, y) = accepted-layout good in
+      let same : q ≡ p = omega (arith, y .long) in
+      (good, rw is (subst (λ (x : ℕ). Layout bytes (file-states bytes) (file-events bytes) x) same y))
 
   module _ (n m p : ℕ) (y : Layout bytes n m p) where
     header-good : header-fault bytes ≡ None
@@ -190,12 +212,13 @@ module _ (bytes : List ℕ) where
     each-press-good k h =
         let long = y .long in
         let room : press-place n k + 7 ≤ length bytes = omega arith in
-        let on : is-end bytes (press-place n k) ≡ false = ne-eqb _ _ (λ z. press-not-end _ (y .press k h .1) z) in
-        (on,
-        cond-false _ _ _ on
-        ∙ (other-skip (whole-fault bytes (press-place n k) 80 90 7) _ (stands bytes (press-place n k) 80 90 7 (y .press k h .0) (inl (y .press k h .1)) room)
-        ∙ cond-true _ _ _
-        (and-from _ _ (and-from _ _ (and-from _ _ (lt-ltb _ _ (y .from k h)) (lt-ltb _ _ (y .event k h))) (lt-ltb _ _ (y .to k h))) (after-before k h))))
+        let on : is-end bytes (press-place n k) ≡ false = ne-eqb _ _ (λ z. press-not-end _ (y .press k h .1) z) in (
+          on,
+          cond-false _ _ _ on
+              ∙ (other-skip (whole-fault bytes (press-place n k) 80 90 7) _ (stands bytes (press-place n k) 80 90 7 (y .press k h .0) (inl (y .press k h .1)) room)
+              ∙ cond-true _ _ _
+              (and-from _ _ (and-from _ _ (and-from _ _ (lt-ltb _ _ (y .from k h)) (lt-ltb _ _ (y .event k h))) (lt-ltb _ _ (y .to k h))) (after-before k h))),
+        )
       where
         press-not-end : (b : ℕ) → b ≡ 80 → b ≡ 90 → ⊥
         press-not-end b e z = omega arith
@@ -205,18 +228,20 @@ module _ (bytes : List ℕ) where
         let long = y .long in
         let end = eq-eqb _ _ (y .end .1) in
         let room : press-place n p + 2 ≤ length bytes = omega arith in
-        let last : length bytes ≤ press-place n p + 2 = omega arith in
-        (end,
-        cond-true _ _ _ end ∙ stands bytes (press-place n p) 80 90 2 (y .end .0) (inr (y .end .1)) room,
-        le-leb _ _ last)
+        let last : length bytes ≤ press-place n p + 2 = omega arith in (
+          end,
+          cond-true _ _ _ end ∙ stands bytes (press-place n p) 80 90 2 (y .end .0) (inr (y .end .1)) room,
+          le-leb _ _ last,
+        )
 
     tail-good : (left k : ℕ) → k ≤ p → tail-fault bytes n m left k ≡ None
     tail-good zero k h = refl
     tail-good (suc left) k h =
-        elim (decLt k p)
-        [ yes lt ↦ other-skip (place-fault bytes n m k) _ (each-press-good k lt .1) ∙ (cond-false _ _ _ (each-press-good k lt .0) ∙ tail-good left (k + 1) (omega arith))
-        | no ge ↦ let is : k ≡ p = omega arith in
-        rw is (other-skip (place-fault bytes n m p) _ (end-good .1) ∙ (cond-true _ _ _ (end-good .0) ∙ cond-true _ _ _ (end-good .2))) ]
+        elim (decLt k p) [
+          | yes lt ↦ other-skip (place-fault bytes n m k) _ (each-press-good k lt .1) ∙ (cond-false _ _ _ (each-press-good k lt .0) ∙ tail-good left (k + 1) (omega arith))
+          | no ge ↦ let is : k ≡ p = omega arith in
+              rw is (other-skip (place-fault bytes n m p) _ (end-good .1) ∙ (cond-true _ _ _ (end-good .0) ∙ cond-true _ _ _ (end-good .2)))
+        ]
 
     -- and the other way round
     pub layout-accepted : fault-of bytes ≡ None

@@ -2,3 +2,4 @@ pub mod Layers
 pub mod Cells
 pub mod Checks
 pub mod Files
+pub mod Filed

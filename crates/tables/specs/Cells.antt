@@ -16,7 +16,7 @@ cells count starts labels next =
       events = 16;
       start = λ s. cond (ltb s count) (getD starts s false) false;
       label = λ s. cond (ltb s count) (getD labels s 0) 0;
-      next = λ s e. cond (ltb e 16) (getD next (s * 16 + e) None) None
+      next = λ s e. cond (ltb e 16) (getD next (s * 16 + e) None) None;
     }
 
 -- each next state exists

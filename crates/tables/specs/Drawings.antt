@@ -40,7 +40,7 @@ appended table label start =
       events = table .events;
       start = λ s. cond (eqb s (table .states)) start (table .start s);
       label = λ s. cond (eqb s (table .states)) label (table .label s);
-      next = λ s e. cond (eqb s (table .states)) None (table .next s e)
+      next = λ s e. cond (eqb s (table .states)) None (table .next s e);
     }
 
 -- Another label and start mark at one state; all next states stay.
@@ -51,7 +51,7 @@ relabelled table state label start =
       events = table .events;
       start = λ s. cond (eqb s state) start (table .start s);
       label = λ s. cond (eqb s state) label (table .label s);
-      next = table .next
+      next = table .next;
     }
 
 -- Another answer for one state and event.
@@ -62,7 +62,7 @@ redirected table from event to =
       events = table .events;
       start = table .start;
       label = table .label;
-      next = λ s e. cond (eqb s from && eqb e event) to (table .next s e)
+      next = λ s e. cond (eqb s from && eqb e event) to (table .next s e);
     }
 
 -- Add takes a label and a start mark, which is 0 or 1, and answers the number of the new state. There is room for 64.

@@ -97,8 +97,24 @@ filed bytes n m p =
       events = m;
       start = λ s. cond (ltb s n) (eqb (byte bytes (state-place s + 4)) 1) false;
       label = λ s. cond (ltb s n) (word bytes (state-place s + 2)) 0;
-      next = λ s e. found bytes n s e p
+      next = λ s e. found bytes n s e p;
     }
+
+-- what a reader of such a file relies on: room for the records, values that exist, and the order of the presses
+abbrev pub Room : List ℕ → ℕ → ℕ → Type 0
+Room bytes n p = 5 * n + 7 * p ≤ length bytes - 5
+
+abbrev pub Exist : List ℕ → ℕ → ℕ → ℕ → Type 0
+Exist bytes n m p =
+    (k : ℕ) → k < p → (press-from bytes (press-place n k) < n) × (press-event bytes (press-place n k) < m) × (press-to bytes (press-place n k) < n)
+
+abbrev pub Ordered : List ℕ → ℕ → ℕ → Type 0
+Ordered bytes n p = (j k : ℕ) → j < k → k < p → press-key bytes (press-place n j) < press-key bytes (press-place n k)
+
+-- where the press of a state and event is, if there is one
+abbrev pub Place : List ℕ → ℕ → ℕ → ℕ → Option ℕ → Type 0
+Place bytes n p key None = (k : ℕ) → k < p → press-key bytes (press-place n k) ≡ key → ⊥
+Place bytes n p key (Some k) = (k < p) × (press-key bytes (press-place n k) ≡ key)
 
 -- What is wrong with a file. The earliest record at fault decides. In a record a wrong byte of the mark comes first, at the mark; then an
 -- early end, at the file's length; then a value or an order that is not allowed, at the mark.

@@ -24,7 +24,11 @@ pub impl Dialogue for Drawing as DrawingDialogue {
     }
 
     fn label(&self, state: usize) -> u16 {
-        if state < self.count { self.labels[state] } else { 0 }
+        if state < self.count {
+            self.labels[state]
+        } else {
+            0
+        }
     }
 
     fn next(&self, state: usize, event: usize) -> Option<u16> {

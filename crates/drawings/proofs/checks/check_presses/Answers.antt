@@ -19,9 +19,10 @@ loop-at-again c =
     let n = c .args .states in
     let k = c .loop-at .k in
     let good : place-fault bytes n (c .args .events) k ≡ None = told-ok _ (sym (c .in-Continue-check-place .ensures tt)) in
-    let going : is-end bytes (press-place n k) ≡ false = sym (c .is-end .ensures) ∙ c .if-is-end .left in
-    (sym (tail-goes bytes n (c .args .events) k (c .loop-at .inv .1) good going) ∙ c .loop-at .inv .0,
-    omega (arith, press-whole bytes n (c .args .events) k going good .1))
+    let going : is-end bytes (press-place n k) ≡ false = sym (c .is-end .ensures) ∙ c .if-is-end .left in (
+      sym (tail-goes bytes n (c .args .events) k (c .loop-at .inv .1) good going) ∙ c .loop-at .inv .0,
+      omega (arith, press-whole bytes n (c .args .events) k going good .1),
+    )
 
 pub returns-then-end-bytes : need.returns-then-end-bytes
 returns-then-end-bytes c =

@@ -15,5 +15,5 @@ returns c =
     let copied : c .copy-from-slice .last .self ≡ text = c .copy-from-slice .ensures .after in
     record {
       exists = sym fits;
-      spells = take-at (c .copy-from-slice .last .self) _ (length text) (ap length copied) ∙ (copied ∙ sym (cond-true _ text _ fits))
+      spells = take-at (c .copy-from-slice .last .self) _ (length text) (ap length copied) ∙ (copied ∙ sym (cond-true _ text _ fits));
     }
