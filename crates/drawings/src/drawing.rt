@@ -5,6 +5,7 @@ ghost use lib.ListN.{length, getD};
 ghost use Rattle.tables.specs.Cells.{Within, Clear};
 
 mod calls;
+mod copies;
 pub mod names;
 pub mod questions;
 

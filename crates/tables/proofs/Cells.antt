@@ -5,15 +5,17 @@ use mathlib.Core.Logic.{inl, inr}
 use mathlib.Core.Bool.{Bool, true, false, _&&_, cond}
 use Prim.Native.Nat.{ℕ, zero, suc, _+_, _-_, _*_, _/_, _%_, _^_, _<_, _≤_}
 use native.Mathlib.Omega.{arith}
+use native.Mathlib.Decide.{decLt}
 use lib.Dec.{ltb, leb, eqb}
 use lib.ListN.{length, getD, set, replicate}
 use Rattle.std.specs.declared.option.Option.{Option}
 use Rattle.std.specs.declared.option.Option.the-variants.{Some, None}
 use Rattle.std.proofs.shelf.Ways.{tells}
-use Rattle.std.proofs.shelf.Lists.{getD-set-same, getD-set-other}
-use Rattle.std.proofs.shelf.Tests.{cond-both, eqb-true, cases-eq}
+use Rattle.std.proofs.shelf.Lists.{getD-set-same, getD-set-other, getD-past}
+use Rattle.std.proofs.shelf.Tests.{cond-both, eqb-true, ltb-true, ltb-false, cases-eq}
+use Rattle.std.proofs.shelf.Edits.{fill-by-more}
 use Rattle.tables.specs.Table.{Table, Formed}
-use Rattle.tables.specs.Cells.{cells, Within, Clear}
+use Rattle.tables.specs.Cells.{cells, Within, Clear, Copied}
 use Rattle.tables.specs.Drawings.{blank, appended, relabelled, redirected}
 
 -- two tables are equal where each of their answers is
@@ -72,3 +74,44 @@ blanks starts labels n =
 
 pub blank-within : (n : ℕ) → Within 0 (replicate n None)
 blank-within n k t is = let z : _≡_ {A = ℕ} 0 1 = cc (getD-same {X = Option ℕ} n k None) in absurd (omega arith)
+
+-- A table of at most 64 states and 16 events, copied answer by answer.
+module _ (t : Table) (f : Formed t) (starts : List Bool) (labels : List ℕ) (next : List (Option ℕ)) (few : t .states ≤ 64) (events : t .events ≡ 16) (long : length next ≡ 1024) (same : Copied t next) where
+  pub copied-within : Within (t .states) next
+  copied-within k to is =
+      elim (decLt k 1024)
+      [ yes lt ↦ f .next-exists (k / 16) (k % 16) to (sym (same k lt) ∙ is)
+      | no ge ↦ let past : length next ≤ k = omega arith in let z : _≡_ {A = ℕ} 0 1 = cc (getD-past next k None past) in absurd (omega arith) ]
+
+  pub copied-clear : Clear (t .states) next
+  copied-clear k past =
+      elim (decLt k 1024)
+      [ yes lt ↦ same k lt ∙ f .absent-state (k / 16) (k % 16) (omega arith)
+      | no ge ↦ getD-past next k None (omega arith) ]
+
+  pub copied-fit : length labels ≡ 64 → ((s : ℕ) → s < 64 → getD labels s 0 ≡ t .label s) → (s : ℕ) → getD labels s 0 < 65536
+  copied-fit size label s =
+      elim (decLt s 64) [ yes lt ↦ rw (label s lt) (f .label-fits s) | no ge ↦ let past : length labels ≤ s = omega arith in rw (getD-past labels s 0 past) (omega arith) ]
+
+  copied-next : (s e : ℕ) → cond (ltb e 16) (getD next (s * 16 + e) None) None ≡ t .next s e
+  copied-next s e =
+      cond-both (ltb e 16) (getD next (s * 16 + e) None) None (λ o. o ≡ t .next s e)
+      (λ low. let below = ltb-true e 16 low in
+      elim (decLt (s * 16 + e) 1024)
+      [ yes lt ↦
+      let q : (s * 16 + e) / 16 ≡ s = omega arith in
+      let r : (s * 16 + e) % 16 ≡ e = omega arith in
+      same (s * 16 + e) lt ∙ (ap (λ (x : ℕ). t .next x ((s * 16 + e) % 16)) q ∙ ap (λ (x : ℕ). t .next s x) r)
+      | no ge ↦ getD-past next (s * 16 + e) None (omega arith) ∙ sym (f .absent-state s e (omega arith)) ])
+      (λ high. sym (f .absent-event s e (omega (arith, ltb-false e 16 high))))
+
+  pub copies : ((s : ℕ) → s < 64 → getD starts s false ≡ t .start s) → ((s : ℕ) → s < 64 → getD labels s 0 ≡ t .label s) → cells (t .states) starts labels next ≡ t
+  copies start label =
+      same-tables (cells (t .states) starts labels next) t refl (sym events)
+      (λ s. cond-both (ltb s (t .states)) (getD starts s false) false (λ b. b ≡ t .start s) (λ lt. start s (omega (arith, ltb-true s (t .states) lt))) (λ ge. sym (f .absent-start s (ltb-false s (t .states) ge))))
+      (λ s. cond-both (ltb s (t .states)) (getD labels s 0) 0 (λ x. x ≡ t .label s) (λ lt. label s (omega (arith, ltb-true s (t .states) lt))) (λ ge. sym (f .absent-label s (ltb-false s (t .states) ge))))
+      copied-next
+
+-- one more place of a list that holds the values of a function
+pub fill-more : {X : Type 0} (f : ℕ → X) (xs : List X) (i : ℕ) (v d : X) → i < length xs → v ≡ f i → ((k : ℕ) → k < i → getD xs k d ≡ f k) → (k : ℕ) → k < i + 1 → getD (set xs i v) k d ≡ f k
+fill-more {X} f xs i v d h is filled k below = ap (λ (x : X). getD (set xs i x) k d) is ∙ fill-by-more f xs i d h filled k below

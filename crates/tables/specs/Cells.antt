@@ -2,7 +2,7 @@
 use mathlib.Core.Path.{_≡_}
 use mathlib.Core.List.{List}
 use mathlib.Core.Bool.{Bool, false, cond}
-use Prim.Native.Nat.{ℕ, _+_, _*_, _<_, _≤_}
+use Prim.Native.Nat.{ℕ, _+_, _*_, _/_, _%_, _<_, _≤_}
 use lib.Dec.{ltb}
 use lib.ListN.{getD}
 use Rattle.std.specs.declared.option.Option.{Option}
@@ -26,3 +26,7 @@ Within count next = (k t : ℕ) → getD next k None ≡ Some t → t < count
 -- nothing leads on from where no state is yet
 abbrev pub Clear : ℕ → List (Option ℕ) → Type 0
 Clear count next = (k : ℕ) → count * 16 ≤ k → getD next k None ≡ None
+
+-- a list of next states that are those of a table
+abbrev pub Copied : Table → List (Option ℕ) → Type 0
+Copied table next = (k : ℕ) → k < 1024 → getD next k None ≡ table .next (k / 16) (k % 16)

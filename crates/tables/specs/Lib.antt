@@ -3,3 +3,4 @@ pub mod Layers
 pub mod Drawings
 pub mod Cells
 pub mod Files
+pub mod Takes

@@ -1,10 +1,15 @@
 //! The calls that change a drawing.
 ghost use mathlib.Core.Path.{_≡_};
 ghost use Rattle.tables.specs.Drawings.{drawing-fault, blank, add-answer, after-add, relabel-answer, after-relabel, join-answer, after-join, cut-answer, after-cut};
+ghost use Rattle.tables.specs.Takes.{take-answer, after-take};
 ghost use Rattle.drawings.specs.Drawn.{drawn};
+use crate::checks::read_file;
 use crate::drawing::Drawing;
 use crate::drawing::EVENTS;
 use crate::drawing::ROOM;
+use crate::drawing::copies::drawing_of;
+use crate::file::File;
+use crate::file::questions::FileDialogue;
 use faults::Cause;
 use faults::Fault;
 use faults::Layer;
@@ -115,5 +120,18 @@ impl Drawing {
         ensures { λ _. ⌜ drawn (now (self .exit)) ≡ blank ⌝ }
     {
         *self = Drawing::new();
+    }
+
+    /// Takes a file's table in place of the drawing's.
+    pub fn take(&mut self, bytes: &[u8]) -> Result<(), Fault>
+        ensures answer { λ r. ⌜ r ≡ take-answer (now (bytes .entry)) ⌝ }
+        ensures leaves { λ _. ⌜ drawn (now (self .exit)) ≡ after-take (drawn (now (self .entry))) (now (bytes .entry)) ⌝ }
+    {
+        let o = read_file(bytes)?;
+        if o.states > ROOM || o.events != EVENTS {
+            return Err(refusal(Cause::DrawingFull, o.states));
+        }
+        *self = drawing_of(&File::open(bytes, o));
+        Ok(())
     }
 }
