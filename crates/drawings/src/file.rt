@@ -4,6 +4,7 @@ ghost use denote.Ref.{now};
 ghost use Rattle.tables.specs.Files.{Room, Exist, Ordered};
 
 pub mod make;
+pub mod names;
 pub mod questions;
 
 /// A dialogue over the bytes of a file, which are read where they lie. A bad file is the empty dialogue.

@@ -1,6 +1,6 @@
 -- The table of a file: what its presses say, its limits, and what a search by halving finds.
 use mathlib.Core.Path.{_≡_, refl, sym, ap, subst, _∙_}
-use mathlib.Core.List.{List}
+use mathlib.Core.List.{List, [], _∷_, _++_}
 use mathlib.Core.Bool.{Bool, true, false, _&&_, cond}
 use mathlib.Core.Logic.{_⊎_, inl, inr}
 use Prim.Native.Nat.{ℕ, zero, suc, _+_, _-_, _*_, _/_, _%_, _^_, _<_, _≤_}
@@ -10,12 +10,14 @@ use lib.Dec.{ltb, leb, eqb}
 use lib.ListN.{length, getD}
 use Rattle.std.specs.declared.option.Option.{Option}
 use Rattle.std.specs.declared.option.Option.the-variants.{Some, None}
+use Rattle.std.specs.Written.{decimal}
+use Rattle.std.proofs.shelf.Decimals.{decimal-digit, decimal-step}
 use Rattle.std.proofs.shelf.Ways.{tells}
-use Rattle.std.proofs.shelf.Tests.{cond-both, cond-true, cond-false, cases-bool, ltb-true, eqb-true, eq-eqb, ne-eqb, and-parts, and-from, and-left, and-right}
+use Rattle.std.proofs.shelf.Tests.{cond-both, cond-true, cond-false, cases-bool, ltb-true, lt-ltb, eqb-true, eq-eqb, ne-eqb, and-parts, and-from, and-left, and-right}
 use Rattle.faults.specs.declared.Fault.{Fault}
 use Rattle.tables.specs.Table.{Table, Formed, empty}
 use Rattle.tables.proofs.Cells.{same-tables}
-use Rattle.tables.specs.Files.{byte, word, state-place, press-place, press-from, press-event, press-to, press-key, Layout, found, filed, Room, Exist, Ordered, Place, fault-of, file-states, file-events, press-count, by-fault, file-table}
+use Rattle.tables.specs.Files.{byte, word, state-place, press-place, press-from, press-event, press-to, press-key, Layout, found, filed, Room, Exist, Ordered, Place, fault-of, file-states, file-events, press-count, by-fault, file-table, file-name}
 
 module _ (bytes : List ℕ) (n : ℕ) where
   abbrev from : ℕ → ℕ
@@ -143,3 +145,13 @@ pub bad-file : {f : Fault} (bytes : List ℕ) → fault-of bytes ≡ Some f → 
 bad-file bytes bad =
     same-tables (filed bytes 0 0 0) empty refl refl (λ s. grind (arith, tells)) (λ s. grind (arith, tells)) (λ s e. refl)
     ∙ sym (ap (λ (o : Option Fault). by-fault o (filed bytes (file-states bytes) (file-events bytes) (press-count bytes))) bad)
+
+-- the names of events
+pub short-name : (m e : ℕ) → e < m → e < 10 → 69 ∷ (48 + e) ∷ [] ≡ file-name m e
+short-name m e h low = ap (λ (ds : List ℕ). 69 ∷ ds) (sym (decimal-digit e low)) ∙ sym (cond-true _ _ _ (lt-ltb e m h))
+
+pub long-name : (m e : ℕ) → e < m → 10 ≤ e → e < 64 → 69 ∷ (48 + e / 10) ∷ (48 + e % 10) ∷ [] ≡ file-name m e
+long-name m e h high low =
+    let front : decimal (e / 10) ≡ (48 + e / 10) ∷ [] = decimal-digit (e / 10) (omega arith) in
+    let whole : decimal e ≡ (48 + e / 10) ∷ (48 + e % 10) ∷ [] = decimal-step e high (omega arith) ∙ ap (λ (ds : List ℕ). ds ++ ((48 + e % 10) ∷ [])) front in
+    ap (λ (ds : List ℕ). 69 ∷ ds) (sym whole) ∙ sym (cond-true _ _ _ (lt-ltb e m h))

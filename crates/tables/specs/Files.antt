@@ -4,7 +4,7 @@
 --   DP  from (2 bytes), event (1 byte), to (2 bytes)            each from and event greater than the one before, from first
 --   DZ                                                          ends the file
 use mathlib.Core.Path.{_≡_}
-use mathlib.Core.List.{List}
+use mathlib.Core.List.{List, [], _∷_}
 use mathlib.Core.Bool.{Bool, true, false, not, _&&_, _||_, cond}
 use Prim.Native.Nat.{ℕ, zero, suc, _+_, _-_, _*_, _/_, _%_, _<_, _≤_}
 use lib.Dec.{ltb, leb, eqb}
@@ -14,6 +14,7 @@ use Rattle.std.specs.declared.option.Option.the-variants.{Some, None}
 use Rattle.std.specs.declared.result.Result.{Result}
 use Rattle.std.specs.declared.result.Result.the-variants.{Ok, Err}
 use Rattle.std.specs.Options.{orOther}
+use Rattle.std.specs.Written.{decimal}
 use Rattle.faults.specs.declared.Fault.{Fault}
 use Rattle.faults.specs.declared.Cause.{Cause}
 use Rattle.faults.specs.declared.Cause.the-variants.{FileTooShort, BadMark, BadRecord, TrailingBytes}
@@ -201,3 +202,7 @@ told (Some f) = Err f
 abbrev pub Ends : List ℕ → ℕ → ℕ → Result ℕ Fault → Type 0
 Ends bytes n m (Ok p) = (tail-fault bytes n m (length bytes) 0 ≡ None) × (length bytes ≡ 7 + 5 * n + 7 * p)
 Ends bytes n m (Err f) = tail-fault bytes n m (length bytes) 0 ≡ Some f
+
+-- event e is named E and its decimal number
+abbrev pub file-name : ℕ → ℕ → List ℕ
+file-name m e = cond (ltb e m) (69 ∷ decimal e) []
