@@ -1,3 +1,4 @@
 pub mod Drawn
 pub mod Read
 pub mod Opened
+pub mod Calls

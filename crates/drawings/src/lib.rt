@@ -1,4 +1,5 @@
 //! Dialogues that are kept: drawings, which are changed call by call, and files, which are read where they lie.
+pub mod call;
 pub mod checks;
 pub mod drawing;
 pub mod file;

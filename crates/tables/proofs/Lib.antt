@@ -3,3 +3,4 @@ pub mod Cells
 pub mod Checks
 pub mod Files
 pub mod Filed
+pub mod Unique

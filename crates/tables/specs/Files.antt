@@ -206,3 +206,16 @@ Ends bytes n m (Err f) = tail-fault bytes n m (length bytes) 0 ≡ Some f
 -- event e is named E and its decimal number
 abbrev pub file-name : ℕ → ℕ → List ℕ
 file-name m e = cond (ltb e m) (69 ∷ decimal e) []
+
+-- numbers of eight bits
+abbrev pub Bytes : List ℕ → Type 0
+Bytes bytes = (i : ℕ) → byte bytes i < 256
+
+-- The statement that a file is accepted exactly where the layout allows it.
+abbrev pub Accepted-by-layout : Type 0
+Accepted-by-layout = (bytes : List ℕ) → (fault-of bytes ≡ None → Allowed bytes) × (Allowed bytes → fault-of bytes ≡ None)
+
+-- The statement that two accepted files have equal tables, event counts among them, exactly when their bytes are equal.
+abbrev pub Tables-tell-files : Type 0
+Tables-tell-files =
+    (a b : List ℕ) → Bytes a → Bytes b → fault-of a ≡ None → fault-of b ≡ None → (file-table a ≡ file-table b → a ≡ b) × (a ≡ b → file-table a ≡ file-table b)
