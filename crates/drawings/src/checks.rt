@@ -3,9 +3,11 @@
 ghost use mathlib.Core.Path.{_≡_};
 ghost use Prim.Native.Nat.{_+_, _*_, _<_, _≤_};
 ghost use lib.ListN.{length};
+ghost use Rattle.std.specs.Orderings.{Decides};
+ghost use Rattle.std.specs.Results.{isOk};
 ghost use Rattle.std.specs.declared.option.Option.the-variants.{None};
 ghost use Rattle.drawings.specs.Read.{Outlined};
-ghost use Rattle.tables.specs.Files.{fault-of, word as word-at, file-fault, mark-wrong, whole-fault, told, header-fault, state-fault, states-fault, press-place, press-fault, place-fault, press-allowed, press-key as key-at, is-end as is-end-at, Ends};
+ghost use Rattle.tables.specs.Files.{Allowed, Tables-tell-files, fault-of, word as word-at, file-fault, mark-wrong, whole-fault, told, header-fault, state-fault, states-fault, press-place, press-fault, place-fault, press-allowed, press-key as key-at, is-end as is-end-at, Ends};
 use faults::Cause;
 use faults::Fault;
 use faults::Layer;
@@ -210,10 +212,15 @@ pub fn read_file(bytes: &[u8]) -> Result<Outline, Fault>
     })
 }
 
-/// Tells what is wrong with a file, if anything is.
+/// Tells what is wrong with a file, if anything is. A file is accepted exactly when the layout allows it, and two accepted files have equal
+/// tables exactly when their bytes are equal.
 pub fn check_file(bytes: &[u8]) -> Result<(), Fault>
-    ensures { λ r. ⌜ r ≡ told (fault-of (now (bytes .entry))) ⌝ }
+    ensures answer { λ r. ⌜ r ≡ told (fault-of (now (bytes .entry))) ⌝ }
+    ensures layout { λ r. ⌜ Decides (isOk r) (Allowed (now (bytes .entry))) ⌝ }
+    ensures apart { λ _. ⌜ Tables-tell-files ⌝ }
 {
-    read_file(bytes)?;
-    Ok(())
+    match read_file(bytes) {
+        Ok(_) => Ok(()),
+        Err(fault) => Err(fault),
+    }
 }

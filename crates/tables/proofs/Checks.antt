@@ -119,3 +119,7 @@ module _ (bytes : List ℕ) where
     pub ends-well : (k : ℕ) → press-place n k ≤ length bytes → place-fault bytes n m k ≡ None → is-end bytes (press-place n k) ≡ true → length bytes ≤ press-place n k + 2 → Reads k → (tail-fault bytes n m (length bytes) 0 ≡ None) × (length bytes ≡ 7 + 5 * n + 7 * k)
     ends-well k h good end last reads =
         (sym reads ∙ (tail-ends k h good end ∙ ap (λ (b : Bool). unless b (file-fault TrailingBytes (press-place n k + 2))) (le-leb _ _ last)), omega (arith, place-whole k good))
+
+-- no fault is a fault
+pub none-some : {f : Fault} → _≡_ {A = Option Fault} None (Some f) → ⊥
+none-some e = let z : _≡_ {A = ℕ} 0 1 = cc in omega arith
