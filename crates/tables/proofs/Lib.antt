@@ -4,3 +4,4 @@ pub mod Checks
 pub mod Files
 pub mod Filed
 pub mod Unique
+pub mod Writes

@@ -4,3 +4,4 @@ pub mod Drawings
 pub mod Cells
 pub mod Files
 pub mod Takes
+pub mod Writes
