@@ -8,6 +8,7 @@ mod calls;
 mod copies;
 pub mod names;
 pub mod questions;
+mod writes;
 
 /// How many states a drawing has room for.
 const ROOM: usize = 64;

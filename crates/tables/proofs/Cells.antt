@@ -12,7 +12,7 @@ use Rattle.std.specs.declared.option.Option.{Option}
 use Rattle.std.specs.declared.option.Option.the-variants.{Some, None}
 use Rattle.std.proofs.shelf.Ways.{tells}
 use Rattle.std.proofs.shelf.Lists.{getD-set-same, getD-set-other, getD-past}
-use Rattle.std.proofs.shelf.Tests.{cond-both, eqb-true, ltb-true, ltb-false, cases-eq}
+use Rattle.std.proofs.shelf.Tests.{cond-both, cond-true, lt-ltb, eqb-true, ltb-true, ltb-false, cases-eq}
 use Rattle.std.proofs.shelf.Edits.{fill-by-more}
 use Rattle.tables.specs.Table.{Table, Formed}
 use Rattle.tables.specs.Cells.{cells, Within, Clear, Copied}
@@ -115,3 +115,10 @@ module _ (t : Table) (f : Formed t) (starts : List Bool) (labels : List ℕ) (ne
 -- one more place of a list that holds the values of a function
 pub fill-more : {X : Type 0} (f : ℕ → X) (xs : List X) (i : ℕ) (v d : X) → i < length xs → v ≡ f i → ((k : ℕ) → k < i → getD xs k d ≡ f k) → (k : ℕ) → k < i + 1 → getD (set xs i v) k d ≡ f k
 fill-more {X} f xs i v d h is filled k below = ap (λ (x : X). getD (set xs i x) k d) is ∙ fill-by-more f xs i d h filled k below
+
+-- the pairs of a state and an event by number
+pub cells-at : (count : ℕ) (starts : List Bool) (labels : List ℕ) (next : List (Option ℕ)) (i : ℕ) → cells count starts labels next .next (i / 16) (i % 16) ≡ getD next i None
+cells-at count starts labels next i =
+    let is : i / 16 * 16 + i % 16 ≡ i = omega arith in
+    let low : i % 16 < 16 = omega arith in
+    cond-true _ _ _ (lt-ltb (i % 16) 16 low) ∙ ap (λ (k : ℕ). getD next k None) is

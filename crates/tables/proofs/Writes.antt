@@ -4,7 +4,7 @@ use mathlib.Core.List.{List, [], _∷_, _++_, append-assoc, append-nil}
 use mathlib.Core.Bool.{Bool, true, false, cond}
 use Prim.Native.Nat.{ℕ, zero, suc, _+_, _-_, _*_, _/_, _%_, _^_, _<_, _≤_}
 use native.Mathlib.Omega.{arith}
-use native.Mathlib.Nat.{suc-mul, zero-mul, zero-add}
+use native.Mathlib.Nat.{suc-mul, zero-mul, zero-add, mul-comm}
 use native.Mathlib.Decide.{decLt}
 use lib.Dec.{ltb, leb, eqb}
 use lib.ListN.{length, getD, take, drop}
@@ -13,12 +13,13 @@ use Rattle.std.specs.Joined.{joined}
 use Rattle.std.specs.declared.option.Option.{Option}
 use Rattle.std.specs.declared.option.Option.the-variants.{Some, None}
 use Rattle.std.proofs.shelf.Ways.{tells}
-use Rattle.std.proofs.shelf.Lists.{length-append, length-push, getD-append-left, getD-append-right, getD-append-add, getD-push, take-at, drop-at, drop-drop, joined-more, map-id}
+use Rattle.std.proofs.shelf.Lists.{length-append, length-push, getD-append-left, getD-append-right, getD-append-add, getD-push, take-at, drop-at, drop-drop, joined-more, map-id, length-take-le, take-append-drop}
 use Rattle.std.proofs.shelf.Counted.{length-counting, getD-counting, map-counting-more}
-use Rattle.std.proofs.shelf.Tests.{cond-both, cond-true, cond-false, ltb-true, ltb-false}
+use Rattle.std.specs.Options.{isSome}
+use Rattle.std.proofs.shelf.Tests.{cond-both, ltb-true, ltb-false, true≢false, false≢true}
 use Rattle.tables.specs.Table.{Table, Formed}
 use Rattle.tables.specs.Files.{byte, word, marked, state-place, press-place, press-from, press-event, press-to, press-key, Layout, found, filed, fault-of, file-table}
-use Rattle.tables.specs.Writes.{Press, header-bytes, state-bytes, press-bytes, press-here, presses, front-bytes, body-bytes, file-of, with-front}
+use Rattle.tables.specs.Writes.{Press, header-bytes, state-bytes, press-bytes, press-here, presses, front-bytes, body-bytes, file-of, with-front, pasted, pair-bytes}
 use Rattle.tables.proofs.Cells.{same-tables}
 use Rattle.tables.proofs.Files.{layout-accepted}
 use Rattle.tables.proofs.Filed.{found-at, found-none, layout-exist, layout-ordered, good-file}
@@ -49,6 +50,18 @@ module _ (old : List ℕ) where
         sym (drop-drop (length record′) at now′) ∙ (ap (drop (length record′)) rest ∙ (drop-drop (length record′) (length front) old ∙ ap (λ (k : ℕ). drop k old) (sym (length-append front record′))))
       in
       put ∙ (ap (λ (x : List ℕ). x ++ (record′ ++ drop (at + length record′) now′)) before ∙ (ap (λ (x : List ℕ). front ++ (record′ ++ x)) behind ∙ sym (append-assoc front record′ _)))
+
+pub pasted-front : (at : ℕ) (piece out : List ℕ) → at ≤ length out → with-front (take at out ++ piece) out ≡ pasted at piece out
+pasted-front at piece out h =
+    let size : length (take at out ++ piece) ≡ at + length piece = length-append (take at out) piece ∙ omega (arith, length-take-le at out h) in
+    ap (λ (k : ℕ). (take at out ++ piece) ++ drop k out) size ∙ append-assoc (take at out) piece _
+
+pub pasted-none : (at : ℕ) (out : List ℕ) → pasted at [] out ≡ out
+pasted-none at out = let none : at + 0 ≡ at = omega arith in rw none (take-append-drop at out)
+
+-- nothing is written yet
+pub front-none : (at : ℕ) (out : List ℕ) → at ≤ length out → out ≡ with-front (take at out ++ []) out
+front-none at out h = sym (pasted-front at [] out h ∙ pasted-none at out)
 
 abbrev no-press : Press
 no-press = record { from = 0; event = 0; to = 0 }
@@ -314,3 +327,57 @@ module _ (t : Table) where
         (λ s. cond-both (ltb s (t .states)) (word w (state-place s + 2)) 0 (λ x. x ≡ t .label s)
         (λ lt. label-read s (ltb-true s (t .states) lt)) (λ ge. sym (f .absent-label s (ltb-false s (t .states) ge))))
         next-read
+
+-- one more pair of a state and an event
+pub pairs-more : (t : Table) (i : ℕ) → presses t (i + 1) ≡ presses t i ++ press-here (i / 16) (i % 16) (t .next (i / 16) (i % 16))
+pairs-more t i = let s : i + 1 ≡ suc i = omega arith in ap (presses t) s
+
+pub joined-pairs : (t : Table) (i : ℕ) → joined press-bytes (presses t i) ++ pair-bytes t i ≡ joined press-bytes (presses t (i + 1))
+joined-pairs t i = sym (ap (joined press-bytes) (pairs-more t i) ∙ joined-both (presses t i) (press-here (i / 16) (i % 16) (t .next (i / 16) (i % 16))))
+  where
+    joined-both : (xs ys : List Press) → joined press-bytes (xs ++ ys) ≡ joined press-bytes xs ++ joined press-bytes ys
+    joined-both [] ys = refl
+    joined-both (x ∷ xs) ys = ap (λ (bs : List ℕ). press-bytes x ++ bs) (joined-both xs ys)
+
+pub length-presses-more : (t : Table) (i : ℕ) → length (presses t (i + 1)) ≡ length (presses t i) + length (press-here (i / 16) (i % 16) (t .next (i / 16) (i % 16)))
+length-presses-more t i = ap length (pairs-more t i) ∙ length-append (presses t i) (press-here (i / 16) (i % 16) (t .next (i / 16) (i % 16)))
+
+pub length-pair : (t : Table) (i : ℕ) → length (pair-bytes t i) ≡ 7 * length (press-here (i / 16) (i % 16) (t .next (i / 16) (i % 16)))
+length-pair t i = length-joined press-bytes 7 (λ x. refl) (press-here (i / 16) (i % 16) (t .next (i / 16) (i % 16))) ∙ mul-comm _ 7
+
+-- what a copy into a part of a list leaves
+pub copied-in : (at : ℕ) (out piece part : List ℕ) → part ≡ piece → take at out ++ (part ++ drop ((at + length piece) - at) (drop at out)) ≡ pasted at piece out
+copied-in at out piece part is =
+    let size : (at + length piece) - at ≡ length piece = omega arith in
+    ap (λ (x : List ℕ). take at out ++ (x ++ drop ((at + length piece) - at) (drop at out))) is
+    ∙ ap (λ (x : List ℕ). take at out ++ (piece ++ x)) (ap (λ (k : ℕ). drop k (drop at out)) size ∙ drop-drop (length piece) at out)
+
+-- the pair of a state and an event adds one press, or none
+module _ (t : Table) (i : ℕ) where
+  pub counts-one : isSome (t .next (i / 16) (i % 16)) ≡ true → length (presses t (i + 1)) ≡ length (presses t i) + 1
+  counts-one is = length-presses-more t i ∙ ap (λ (k : ℕ). length (presses t i) + k) (one (t .next (i / 16) (i % 16)) is)
+    where
+      one : (o : Option ℕ) → isSome o ≡ true → length (press-here (i / 16) (i % 16) o) ≡ 1
+      one None e = absurd (false≢true e)
+      one (Some x) e = refl
+
+  pub counts-none : isSome (t .next (i / 16) (i % 16)) ≡ false → length (presses t (i + 1)) ≡ length (presses t i)
+  counts-none is = length-presses-more t i ∙ omega (arith, none (t .next (i / 16) (i % 16)) is)
+    where
+      none : (o : Option ℕ) → isSome o ≡ false → length (press-here (i / 16) (i % 16) o) ≡ 0
+      none None e = refl
+      none (Some x) e = absurd (true≢false e)
+
+  pub pair-some : (to : ℕ) → t .next (i / 16) (i % 16) ≡ Some to → i / 16 < 256 → to < 256 → 68 ∷ 80 ∷ i / 16 ∷ 0 ∷ i % 16 ∷ to ∷ 0 ∷ [] ≡ pair-bytes t i
+  pair-some to is from-low to-low =
+      let a : i / 16 ≡ (i / 16) % 256 = omega arith in
+      let b : 0 ≡ (i / 16) / 256 = omega arith in
+      let c : to ≡ to % 256 = omega arith in
+      let d : 0 ≡ to / 256 = omega arith in
+      let parts : 68 ∷ 80 ∷ i / 16 ∷ 0 ∷ i % 16 ∷ to ∷ 0 ∷ [] ≡ press-bytes (record { from = i / 16; event = i % 16; to = to }) =
+        λ j. 68 ∷ 80 ∷ a j ∷ b j ∷ i % 16 ∷ c j ∷ d j ∷ []
+      in
+      parts ∙ ap (λ (o : Option ℕ). joined press-bytes (press-here (i / 16) (i % 16) o)) (sym is)
+
+  pub pair-none : t .next (i / 16) (i % 16) ≡ None → pair-bytes t i ≡ []
+  pair-none is = ap (λ (o : Option ℕ). joined press-bytes (press-here (i / 16) (i % 16) o)) is

@@ -4,7 +4,7 @@ use mathlib.Core.List.{List, [], _∷_, _++_}
 use mathlib.Core.Bool.{cond}
 use Prim.Native.Nat.{ℕ, zero, suc, _+_, _*_, _/_, _%_}
 use lib.Dec.{leb}
-use lib.ListN.{length, drop}
+use lib.ListN.{length, take, drop}
 use Rattle.std.specs.Iters.{counting}
 use Rattle.std.specs.Joined.{joined}
 use Rattle.std.specs.declared.option.Option.{Option}
@@ -57,5 +57,13 @@ write-answer table out = cond (leb (length (file-of table)) (length out)) (Ok (l
 abbrev pub with-front : List ℕ → List ℕ → List ℕ
 with-front front out = front ++ drop (length front) out
 
+-- a piece written over a list from a place on
+abbrev pub pasted : ℕ → List ℕ → List ℕ → List ℕ
+pasted at piece out = take at out ++ (piece ++ drop (at + length piece) out)
+
 abbrev pub after-write : Table → List ℕ → List ℕ
 after-write table out = cond (leb (length (file-of table)) (length out)) (with-front (file-of table) out) out
+
+-- the bytes of the i-th pair of a state and an event
+abbrev pub pair-bytes : Table → ℕ → List ℕ
+pair-bytes table i = joined press-bytes (press-here (i / 16) (i % 16) (table .next (i / 16) (i % 16)))
