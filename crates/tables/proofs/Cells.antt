@@ -79,15 +79,17 @@ blank-within n k t is = let z : _≡_ {A = ℕ} 0 1 = cc (getD-same {X = Option 
 module _ (t : Table) (f : Formed t) (starts : List Bool) (labels : List ℕ) (next : List (Option ℕ)) (few : t .states ≤ 64) (events : t .events ≡ 16) (long : length next ≡ 1024) (same : Copied t next) where
   pub copied-within : Within (t .states) next
   copied-within k to is =
-      elim (decLt k 1024)
-      [ yes lt ↦ f .next-exists (k / 16) (k % 16) to (sym (same k lt) ∙ is)
-      | no ge ↦ let past : length next ≤ k = omega arith in let z : _≡_ {A = ℕ} 0 1 = cc (getD-past next k None past) in absurd (omega arith) ]
+      elim (decLt k 1024) [
+        | yes lt ↦ f .next-exists (k / 16) (k % 16) to (sym (same k lt) ∙ is)
+        | no ge ↦ let past : length next ≤ k = omega arith in let z : _≡_ {A = ℕ} 0 1 = cc (getD-past next k None past) in absurd (omega arith)
+      ]
 
   pub copied-clear : Clear (t .states) next
   copied-clear k past =
-      elim (decLt k 1024)
-      [ yes lt ↦ same k lt ∙ f .absent-state (k / 16) (k % 16) (omega arith)
-      | no ge ↦ getD-past next k None (omega arith) ]
+      elim (decLt k 1024) [
+        | yes lt ↦ same k lt ∙ f .absent-state (k / 16) (k % 16) (omega arith)
+        | no ge ↦ getD-past next k None (omega arith)
+      ]
 
   pub copied-fit : length labels ≡ 64 → ((s : ℕ) → s < 64 → getD labels s 0 ≡ t .label s) → (s : ℕ) → getD labels s 0 < 65536
   copied-fit size label s =
@@ -97,12 +99,13 @@ module _ (t : Table) (f : Formed t) (starts : List Bool) (labels : List ℕ) (ne
   copied-next s e =
       cond-both (ltb e 16) (getD next (s * 16 + e) None) None (λ o. o ≡ t .next s e)
       (λ low. let below = ltb-true e 16 low in
-      elim (decLt (s * 16 + e) 1024)
-      [ yes lt ↦
-      let q : (s * 16 + e) / 16 ≡ s = omega arith in
-      let r : (s * 16 + e) % 16 ≡ e = omega arith in
-      same (s * 16 + e) lt ∙ (ap (λ (x : ℕ). t .next x ((s * 16 + e) % 16)) q ∙ ap (λ (x : ℕ). t .next s x) r)
-      | no ge ↦ getD-past next (s * 16 + e) None (omega arith) ∙ sym (f .absent-state s e (omega arith)) ])
+      elim (decLt (s * 16 + e) 1024) [
+        | yes lt ↦
+            let q : (s * 16 + e) / 16 ≡ s = omega arith in
+            let r : (s * 16 + e) % 16 ≡ e = omega arith in
+            same (s * 16 + e) lt ∙ (ap (λ (x : ℕ). t .next x ((s * 16 + e) % 16)) q ∙ ap (λ (x : ℕ). t .next s x) r)
+        | no ge ↦ getD-past next (s * 16 + e) None (omega arith) ∙ sym (f .absent-state s e (omega arith))
+      ])
       (λ high. sym (f .absent-event s e (omega (arith, ltb-false e 16 high))))
 
   pub copies : ((s : ℕ) → s < 64 → getD starts s false ≡ t .start s) → ((s : ℕ) → s < 64 → getD labels s 0 ≡ t .label s) → cells (t .states) starts labels next ≡ t

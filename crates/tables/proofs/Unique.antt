@@ -47,19 +47,20 @@ module _ (a b : List ℕ) (n m p q : ℕ) (ya : Layout a n m p) (yb : Layout b n
       let i = l .at in
       let key-i = also-key a b n m p q ya yb same k h in
       let above : k ≤ i = not-below i k (λ lt. let i<p : i < p = omega arith in
-        omega (arith, before i lt i<p .1, key-i, layout-ordered a n m p ya i k lt h)) in
+      omega (arith, before i lt i<p .1, key-i, layout-ordered a n m p ya i k lt h)) in
       let k<q : k < q = omega (arith, l .listed) in
       let down : press-key b (press-place n k) ≤ press-key b (press-place n i) = rising b n q (layout-ordered b n m q yb) k i above (l .listed) in
       let r = also b a n m q p yb ya (λ s e. sym (same s e)) k k<q in
       let i′ = r .at in
       let key-i′ = also-key b a n m q p yb ya (λ s e. sym (same s e)) k k<q in
       let above′ : k ≤ i′ = not-below i′ k (λ lt. let i<p : i′ < p = r .listed in
-        omega (arith, before i′ lt i<p .1, key-i′, layout-ordered b n m q yb i′ k lt k<q)) in
+      omega (arith, before i′ lt i<p .1, key-i′, layout-ordered b n m q yb i′ k lt k<q)) in
       let down′ : press-key a (press-place n k) ≤ press-key a (press-place n i′) = rising a n p (layout-ordered a n m p ya) k i′ above′ (r .listed) in
       (k<q, omega (arith, down, down′, key-i, key-i′))
     where
       not-below : (i k : ℕ) → (i < k → ⊥) → k ≤ i
       not-below i k no′ = elim (decLt i k) [ yes lt ↦ absurd (no′ lt) | no ge ↦ omega arith ]
+
       rising : (c : List ℕ) (n r : ℕ) → Ordered c n r → (j k : ℕ) → j ≤ k → k < r → press-key c (press-place n j) ≤ press-key c (press-place n k)
       rising c n r ordered j k le h =
           elim (decLt j k) [ yes lt ↦ omega (arith, ordered j k lt h) | no ge ↦ let is : j ≡ k = omega arith in rw is (omega arith) ]
@@ -119,7 +120,7 @@ module _ (a b : List ℕ) (fa : Bytes a) (fb : Bytes b) (n m p q : ℕ) (ya : La
   start-same s h =
       let here = lt-ltb s n h in
       let marks : eqb (byte a (state-place s + 4)) 1 ≡ eqb (byte b (state-place s + 4)) 1 =
-        sym (cond-true _ (eqb (byte a (state-place s + 4)) 1) false here) ∙ (states s ∙ cond-true _ (eqb (byte b (state-place s + 4)) 1) false here) in
+      sym (cond-true _ (eqb (byte a (state-place s + 4)) 1) false here) ∙ (states s ∙ cond-true _ (eqb (byte b (state-place s + 4)) 1) false here) in
       zero-or-one (byte a (state-place s + 4)) (byte b (state-place s + 4)) (ya .start s h) (yb .start s h) marks
     where
       zero-or-one : (x y : ℕ) → x ≤ 1 → y ≤ 1 → eqb x 1 ≡ eqb y 1 → x ≡ y
@@ -143,57 +144,65 @@ module _ (a b : List ℕ) (fa : Bytes a) (fb : Bytes b) (n m p q : ℕ) (ya : La
       let sixth : at + 6 ≡ at + 5 + 1 = omega arith in
       let none : at + 0 ≡ at = omega arith in
       let first : (r : ℕ) → r < 5 → Same (at + r) =
-        five (λ r. Same (at + r)) (rw none (ya .press k h .0 ∙ sym (yb .press k k<q .0))) (ya .press k h .1 ∙ sym (yb .press k k<q .1)) (f .0) (rw third (f .1)) (same-event a b n m p q ya yb same k h)
+      five (λ r. Same (at + r)) (rw none (ya .press k h .0 ∙ sym (yb .press k k<q .0))) (ya .press k h .1 ∙ sym (yb .press k k<q .1)) (f .0) (rw third (f .1)) (same-event a b n m p q ya yb same k h)
       in
-      elim (decLt r 5)
-      [ yes lt ↦ first r lt
-      | no ge ↦ elim (decLt r 6)
-      [ yes lt ↦ let is : r ≡ 5 = omega arith in rw is (t .0)
-      | no ge′ ↦ let is : r ≡ 6 = omega arith in rw (is, sixth) (t .1) ] ]
+      elim (decLt r 5) [
+        | yes lt ↦ first r lt
+        | no ge ↦ elim (decLt r 6) [
+          | yes lt ↦ let is : r ≡ 5 = omega arith in rw is (t .0)
+          | no ge′ ↦ let is : r ≡ 6 = omega arith in rw (is, sixth) (t .1)
+        ]
+      ]
 
   end-same : (r : ℕ) → r < 2 → Same (press-place n p + r)
   end-same r below =
       let end : marked b (press-place n p) 90 = rw presses-same (yb .end) in
       let none : press-place n p + 0 ≡ press-place n p = omega arith in
-      elim (decLt r 1)
-      [ yes lt ↦ let is : r ≡ 0 = omega arith in rw (is, none) (ya .end .0 ∙ sym (end .0))
-      | no ge ↦ let is : r ≡ 1 = omega arith in rw is (ya .end .1 ∙ sym (end .1)) ]
+      elim (decLt r 1) [
+        | yes lt ↦ let is : r ≡ 0 = omega arith in rw (is, none) (ya .end .0 ∙ sym (end .0))
+        | no ge ↦ let is : r ≡ 1 = omega arith in rw is (ya .end .1 ∙ sym (end .1))
+      ]
 
   each-same : (i : ℕ) → i < length a → Same i
   each-same i h =
       let long = ya .long in
-      elim (decLt i 5)
-      [ yes lt ↦ header-same i lt
-      | no ge ↦ elim (decLt i (5 + 5 * n))
-      [ yes lt ↦
-      let is : state-place ((i - 5) / 5) + (i - 5) % 5 ≡ i = omega arith in
-      subst Same is (state-same ((i - 5) / 5) (omega arith) ((i - 5) % 5) (omega arith))
-      | no ge′ ↦ elim (decLt i (press-place n p))
-      [ yes lt ↦
-      let is : press-place n ((i - (5 + 5 * n)) / 7) + (i - (5 + 5 * n)) % 7 ≡ i = omega arith in
-      subst Same is (press-same ((i - (5 + 5 * n)) / 7) (omega arith) ((i - (5 + 5 * n)) % 7) (omega arith))
-      | no ge″ ↦
-      let is : press-place n p + (i - press-place n p) ≡ i = omega arith in
-      subst Same is (end-same (i - press-place n p) (omega arith)) ] ] ]
+      elim (decLt i 5) [
+        | yes lt ↦ header-same i lt
+        | no ge ↦ elim (decLt i (5 + 5 * n)) [
+          | yes lt ↦
+              let is : state-place ((i - 5) / 5) + (i - 5) % 5 ≡ i = omega arith in
+              subst Same is (state-same ((i - 5) / 5) (omega arith) ((i - 5) % 5) (omega arith))
+          | no ge′ ↦ elim (decLt i (press-place n p)) [
+            | yes lt ↦
+                let is : press-place n ((i - (5 + 5 * n)) / 7) + (i - (5 + 5 * n)) % 7 ≡ i = omega arith in
+                subst Same is (press-same ((i - (5 + 5 * n)) / 7) (omega arith) ((i - (5 + 5 * n)) % 7) (omega arith))
+            | no ge″ ↦
+                let is : press-place n p + (i - press-place n p) ≡ i = omega arith in
+                subst Same is (end-same (i - press-place n p) (omega arith))
+          ]
+        ]
+      ]
 
   pub bytes-same : a ≡ b
   bytes-same = ext-getD 0 a b (ya .long ∙ (ap (λ (x : ℕ). 7 + 5 * n + 7 * x) presses-same ∙ sym (yb .long))) each-same
 
 pub accepted-by-layout : Accepted-by-layout
-accepted-by-layout bytes =
-    (λ good. let (p, y) = accepted-layout bytes good in (file-states bytes, file-events bytes, p, y),
-    λ allowed. layout-accepted bytes (allowed .0) (allowed .1) (allowed .2) (allowed .3))
+accepted-by-layout bytes = (
+  λ good. let (p, y) = accepted-layout bytes good in (file-states bytes, file-events bytes, p, y),
+  λ allowed. layout-accepted bytes (allowed .0) (allowed .1) (allowed .2) (allowed .3),
+)
 
 pub tables-tell-files : Tables-tell-files
-tables-tell-files a b fa fb ga gb =
-    (λ e.
-    let (p, ya) = accepted-layout a ga in
-    let (q, yb) = accepted-layout b gb in
-    let same : filed a (file-states a) (file-events a) p ≡ filed b (file-states b) (file-events b) q =
+tables-tell-files a b fa fb ga gb = (
+  λ e.
+      let (p, ya) = accepted-layout a ga in
+      let (q, yb) = accepted-layout b gb in
+      let same : filed a (file-states a) (file-events a) p ≡ filed b (file-states b) (file-events b) q =
       good-file a (file-states a) (file-events a) p ya ga ∙ (e ∙ sym (good-file b (file-states b) (file-events b) q yb gb))
-    in
-    told a b fa fb (file-states a) (file-events a) (file-states b) (file-events b) p q ya yb same,
-    ap file-table)
+      in
+      told a b fa fb (file-states a) (file-events a) (file-states b) (file-events b) p q ya yb same,
+  ap file-table,
+)
   where
     told : (a b : List ℕ) → Bytes a → Bytes b → (n m n′ m′ p q : ℕ) → Layout a n m p → Layout b n′ m′ q → filed a n m p ≡ filed b n′ m′ q → a ≡ b
     told a b fa fb n m n′ m′ p q ya yb e =

@@ -1,7 +1,7 @@
 -- What a drawing writes is an accepted file with the drawing's table.
 use mathlib.Core.Path.{_≡_, refl, sym, ap, subst, _∙_}
 use mathlib.Core.List.{List, [], _∷_, _++_, append-assoc, append-nil}
-use mathlib.Core.Bool.{Bool, true, false, cond}
+use mathlib.Core.Bool.{Bool, true, false, _&&_, cond}
 use Prim.Native.Nat.{ℕ, zero, suc, _+_, _-_, _*_, _/_, _%_, _^_, _<_, _≤_}
 use native.Mathlib.Omega.{arith}
 use native.Mathlib.Nat.{suc-mul, zero-mul, zero-add, mul-comm}
@@ -16,10 +16,16 @@ use Rattle.std.proofs.shelf.Ways.{tells}
 use Rattle.std.proofs.shelf.Lists.{length-append, length-push, getD-append-left, getD-append-right, getD-append-add, getD-push, take-at, drop-at, drop-drop, joined-more, map-id, length-take-le, take-append-drop}
 use Rattle.std.proofs.shelf.Counted.{length-counting, getD-counting, map-counting-more}
 use Rattle.std.specs.Options.{isSome}
-use Rattle.std.proofs.shelf.Tests.{cond-both, ltb-true, ltb-false, true≢false, false≢true}
+use Rattle.std.proofs.shelf.Tests.{cond-both, cond-true, cond-false, ltb-true, ltb-false, le-leb, lt-leb, eq-eqb, and-from, true≢false, false≢true}
 use Rattle.tables.specs.Table.{Table, Formed}
-use Rattle.tables.specs.Files.{byte, word, marked, state-place, press-place, press-from, press-event, press-to, press-key, Layout, found, filed, fault-of, file-table}
-use Rattle.tables.specs.Writes.{Press, header-bytes, state-bytes, press-bytes, press-here, presses, front-bytes, body-bytes, file-of, with-front, pasted, pair-bytes}
+use Rattle.tables.specs.Files.{byte, word, marked, state-place, press-place, press-from, press-event, press-to, press-key, Layout, found, filed, fault-of, file-states, file-events, file-table}
+use Rattle.std.specs.declared.result.Result.{Result}
+use Rattle.std.specs.declared.result.Result.the-variants.{Ok}
+use Rattle.faults.specs.declared.Fault.{Fault}
+use Rattle.faults.specs.declared.Cause.the-variants.{DrawingFull, ListTooShort}
+use Rattle.tables.specs.Drawings.{refused, after}
+use Rattle.tables.specs.Takes.{unless-bad, take-answer, after-take}
+use Rattle.tables.specs.Writes.{Press, header-bytes, state-bytes, press-bytes, press-here, presses, front-bytes, body-bytes, file-of, with-front, pasted, pair-bytes, write-answer, after-write, Reads-back}
 use Rattle.tables.proofs.Cells.{same-tables}
 use Rattle.tables.proofs.Files.{layout-accepted}
 use Rattle.tables.proofs.Filed.{found-at, found-none, layout-exist, layout-ordered, good-file}
@@ -47,7 +53,7 @@ module _ (old : List ℕ) where
       let before : take at now′ ≡ front = ap (take at) is ∙ take-at front (drop (length front) old) at size in
       let rest : drop at now′ ≡ drop (length front) old = ap (drop at) is ∙ drop-at front (drop (length front) old) at size in
       let behind : drop (at + length record′) now′ ≡ drop (length (front ++ record′)) old =
-        sym (drop-drop (length record′) at now′) ∙ (ap (drop (length record′)) rest ∙ (drop-drop (length record′) (length front) old ∙ ap (λ (k : ℕ). drop k old) (sym (length-append front record′))))
+      sym (drop-drop (length record′) at now′) ∙ (ap (drop (length record′)) rest ∙ (drop-drop (length record′) (length front) old ∙ ap (λ (k : ℕ). drop k old) (sym (length-append front record′))))
       in
       put ∙ (ap (λ (x : List ℕ). x ++ (record′ ++ drop (at + length record′) now′)) before ∙ (ap (λ (x : List ℕ). front ++ (record′ ++ x)) behind ∙ sym (append-assoc front record′ _)))
 
@@ -90,13 +96,14 @@ module _ (t : Table) where
         before = λ k h. omega (arith, p .before k h);
         rises = p .rises;
         all = λ s e to is low below.
-          elim (decLt (s * 16 + e) i)
-          [ yes lt ↦ p .all s e to is low lt
-          | no ge ↦
-          let q : i / 16 ≡ s = omega arith in
-          let r : i % 16 ≡ e = omega arith in
-          let z : _≡_ {A = ℕ} 0 1 = cc (ap (λ (x : ℕ). t .next x (i % 16)) q, ap (λ (x : ℕ). t .next s x) r) in
-          absurd (omega arith) ]
+            elim (decLt (s * 16 + e) i) [
+              | yes lt ↦ p .all s e to is low lt
+              | no ge ↦
+                  let q : i / 16 ≡ s = omega arith in
+                  let r : i % 16 ≡ e = omega arith in
+                  let z : _≡_ {A = ℕ} 0 1 = cc (ap (λ (x : ℕ). t .next x (i % 16)) q, ap (λ (x : ℕ). t .next s x) r) in
+                  absurd (omega arith)
+            ];
       }
 
   more-one : (i to : ℕ) (ps : List Press) → t .next (i / 16) (i % 16) ≡ Some to → Presses t i ps → Presses t (suc i) (ps ++ (record { from = i / 16; event = i % 16; to = to } ∷ []))
@@ -106,24 +113,29 @@ module _ (t : Table) where
         low = λ k h. by-place k h (λ x. x .event < 16) (p .low k) (omega arith);
         before = λ k h. by-place k h (λ x. rank x < suc i) (λ lt. omega (arith, p .before k lt)) (omega arith);
         rises = λ j k jk h.
-          let j-old : j < length ps = omega (arith, length-push ps new) in
-          let j-is : at (ps ++ (new ∷ [])) j ≡ at ps j = getD-append-left ps (new ∷ []) no-press j j-old in
-          rw j-is (by-place k h (λ x. rank (at ps j) < rank x) (λ lt. p .rises j k jk lt) (omega (arith, p .before j j-old)));
+            let j-old : j < length ps = omega (arith, length-push ps new) in
+            let j-is : at (ps ++ (new ∷ [])) j ≡ at ps j = getD-append-left ps (new ∷ []) no-press j j-old in
+            rw j-is (by-place k h (λ x. rank (at ps j) < rank x) (λ lt. p .rises j k jk lt) (omega (arith, p .before j j-old)));
         all = λ s e to′ is′ low below.
-          elim (decLt (s * 16 + e) i)
-          [ yes lt ↦ let (k, h, there) = p .all s e to′ is′ low lt in (k, omega (arith, length-push ps new), getD-append-left ps (new ∷ []) no-press k h ∙ there)
-          | no ge ↦ (length ps, omega (arith, length-push ps new), getD-push ps new no-press (length ps) refl ∙ same-press s e to′ is′ (omega arith) (omega arith)) ]
+            elim (decLt (s * 16 + e) i) [
+              | yes lt ↦ let (k, h, there) = p .all s e to′ is′ low lt in (k, omega (arith, length-push ps new), getD-append-left ps (new ∷ []) no-press k h ∙ there)
+              | no ge ↦ (length ps, omega (arith, length-push ps new), getD-push ps new no-press (length ps) refl ∙ same-press s e to′ is′ (omega arith) (omega arith))
+            ];
       }
     where
       new : Press
       new = record { from = i / 16; event = i % 16; to = to }
+
       by-place : (k : ℕ) → k < length (ps ++ (new ∷ [])) → (P : Press → Type 0) → (k < length ps → P (at ps k)) → P new → P (at (ps ++ (new ∷ [])) k)
       by-place k h P old fresh =
-          elim (decLt k (length ps))
-          [ yes lt ↦ subst P (sym (getD-append-left ps (new ∷ []) no-press k lt)) (old lt)
-          | no ge ↦ let last : k ≡ length ps = omega (arith, length-push ps new) in subst P (sym (ap (at (ps ++ (new ∷ []))) last ∙ getD-push ps new no-press (length ps) refl)) fresh ]
+          elim (decLt k (length ps)) [
+            | yes lt ↦ subst P (sym (getD-append-left ps (new ∷ []) no-press k lt)) (old lt)
+            | no ge ↦ let last : k ≡ length ps = omega (arith, length-push ps new) in subst P (sym (ap (at (ps ++ (new ∷ []))) last ∙ getD-push ps new no-press (length ps) refl)) fresh
+          ]
+
       some-same : {a b : ℕ} → Some a ≡ Some b → a ≡ b
       some-same e = cc
+
       same-press : (s e to′ : ℕ) → t .next s e ≡ Some to′ → i / 16 ≡ s → i % 16 ≡ e → new ≡ record { from = s; event = e; to = to′ }
       same-press s e to′ is′ q r =
           let to-is : to ≡ to′ = some-same (sym is ∙ (ap (λ (x : ℕ). t .next x (i % 16)) q ∙ (ap (λ (x : ℕ). t .next s x) r ∙ is′))) in
@@ -136,7 +148,7 @@ module _ (t : Table) where
         low = λ k h. absurd (omega arith);
         before = λ k h. absurd (omega arith);
         rises = λ j k jk h. absurd (omega arith);
-        all = λ s e to is low below. absurd (omega arith)
+        all = λ s e to is low below. absurd (omega arith);
       }
   pressed (suc i) = by-next (t .next (i / 16) (i % 16)) refl (pressed i)
     where
@@ -158,31 +170,13 @@ module _ (t : Table) where
   pub length-file : length (file-of t) ≡ 7 + 5 * t .states + 7 * length (presses t (t .states * 16))
   length-file = length-append (body-bytes t (t .states * 16)) (68 ∷ 90 ∷ []) ∙ omega (arith, length-body (t .states * 16))
 
-  -- one more state, and what one more pair of a state and an event adds
-  pub front-more : (s : ℕ) → front-bytes t s ++ state-bytes t s ≡ front-bytes t (s + 1)
-  front-more s =
-      joined-more (state-bytes t) (header-bytes t) (counting 0 s) s ∙ ap (λ (xs : List ℕ). header-bytes t ++ joined (state-bytes t) xs) (sym (counting-more s))
-    where
-      counting-more : (s : ℕ) → counting 0 (s + 1) ≡ counting 0 s ++ (s ∷ [])
-      counting-more s = sym (map-id _) ∙ (map-counting-more (λ x. x) 0 s s (omega arith) ∙ ap (λ (xs : List ℕ). xs ++ (s ∷ [])) (map-id _))
-
-  pub body-more : (i to : ℕ) → t .next (i / 16) (i % 16) ≡ Some to → body-bytes t i ++ press-bytes (record { from = i / 16; event = i % 16; to = to }) ≡ body-bytes t (i + 1)
-  body-more i to is =
-      let s : i + 1 ≡ suc i = omega arith in
-      joined-more press-bytes (front-bytes t (t .states)) (presses t i) (record { from = i / 16; event = i % 16; to = to })
-      ∙ rw s (ap (λ (o : Option ℕ). front-bytes t (t .states) ++ joined press-bytes (presses t i ++ press-here (i / 16) (i % 16) o)) (sym is))
-
-  pub body-same : (i : ℕ) → t .next (i / 16) (i % 16) ≡ None → body-bytes t i ≡ body-bytes t (i + 1)
-  body-same i is =
-      let s : i + 1 ≡ suc i = omega arith in
-      rw s (ap (λ (ps : List Press). front-bytes t (t .states) ++ joined press-bytes ps) (sym (append-nil (presses t i)) ∙ ap (λ (o : Option ℕ). presses t i ++ press-here (i / 16) (i % 16) o) (sym is)))
-
   pub presses-grow : (i j : ℕ) → i ≤ j → length (presses t i) ≤ length (presses t j)
   presses-grow i zero h = let is : i ≡ 0 = omega arith in rw is (omega arith)
   presses-grow i (suc j) h =
-      elim (decLt j i)
-      [ yes lt ↦ let is : i ≡ suc j = omega arith in rw is (omega arith)
-      | no ge ↦ omega (arith, presses-grow i j (omega arith), length-append (presses t j) (press-here (j / 16) (j % 16) (t .next (j / 16) (j % 16)))) ]
+      elim (decLt j i) [
+        | yes lt ↦ let is : i ≡ suc j = omega arith in rw is (omega arith)
+        | no ge ↦ omega (arith, presses-grow i j (omega arith), length-append (presses t j) (press-here (j / 16) (j % 16) (t .next (j / 16) (j % 16))))
+      ]
 
   module _ (f : Formed t) (few : t .states ≤ 64) (events : t .events ≡ 16) where
     abbrev ps : List Press
@@ -270,12 +264,12 @@ module _ (t : Table) where
           event = λ k h. rw (event-read k h) (pressed t (t .states * 16) .low k h);
           to = λ k h. rw (to-read k h) (exists k h .1);
           rises = λ k h.
-            let k′ : k < length ps = omega arith in
-            let step : k < suc k = omega arith in
-            let r = pressed t (t .states * 16) .rises k (suc k) step h in
-            let l = pressed t (t .states * 16) .low in
-            omega (arith, r, l k k′, l (suc k) h, from-read k k′, event-read k k′, from-read (suc k) h, event-read (suc k) h);
-          end = let none : press-place (t .states) (length ps) ≡ press-place (t .states) (length ps) + 0 = omega arith in (ap (byte w) none ∙ end-byte 0, end-byte 1)
+              let k′ : k < length ps = omega arith in
+              let step : k < suc k = omega arith in
+              let r = pressed t (t .states * 16) .rises k (suc k) step h in
+              let l = pressed t (t .states * 16) .low in
+              omega (arith, r, l k k′, l (suc k) h, from-read k k′, event-read k k′, from-read (suc k) h, event-read (suc k) h);
+          end = let none : press-place (t .states) (length ps) ≡ press-place (t .states) (length ps) + 0 = omega arith in (ap (byte w) none ∙ end-byte 0, end-byte 1);
         }
 
     pub file-good : fault-of w ≡ None
@@ -306,6 +300,7 @@ module _ (t : Table) where
           where
             state-in : (s e to : ℕ) → t .next s e ≡ Some to → s < t .states
             state-in s e to is = elim (decLt s (t .states)) [ yes lt ↦ lt | no ge ↦ let z : _≡_ {A = ℕ} 0 1 = cc (is, f .absent-state s e (omega arith)) in absurd (omega arith) ]
+
             event-in : (s e to : ℕ) → t .next s e ≡ Some to → e < 16
             event-in s e to is = elim (decLt e 16) [ yes lt ↦ lt | no ge ↦ let z : _≡_ {A = ℕ} 0 1 = cc (is, f .absent-event s e (omega arith)) in absurd (omega arith) ]
 
@@ -375,9 +370,79 @@ module _ (t : Table) (i : ℕ) where
       let c : to ≡ to % 256 = omega arith in
       let d : 0 ≡ to / 256 = omega arith in
       let parts : 68 ∷ 80 ∷ i / 16 ∷ 0 ∷ i % 16 ∷ to ∷ 0 ∷ [] ≡ press-bytes (record { from = i / 16; event = i % 16; to = to }) =
-        λ j. 68 ∷ 80 ∷ a j ∷ b j ∷ i % 16 ∷ c j ∷ d j ∷ []
+      λ j. 68 ∷ 80 ∷ a j ∷ b j ∷ i % 16 ∷ c j ∷ d j ∷ []
       in
       parts ∙ ap (λ (o : Option ℕ). joined press-bytes (press-here (i / 16) (i % 16) o)) (sym is)
 
   pub pair-none : t .next (i / 16) (i % 16) ≡ None → pair-bytes t i ≡ []
   pair-none is = ap (λ (o : Option ℕ). joined press-bytes (press-here (i / 16) (i % 16) o)) is
+
+-- a piece behind another
+pub paste-grows : (old now′ then first second : List ℕ) (a b : ℕ) → a ≤ length old → now′ ≡ with-front (take a old ++ first) old → b ≡ a + length first → then ≡ pasted b second now′ → then ≡ with-front (take a old ++ (first ++ second)) old
+paste-grows old now′ then first second a b h is size put =
+    let long : length (take a old ++ first) ≡ b = length-append (take a old) first ∙ omega (arith, length-take-le a old h) in
+    grows old (take a old ++ first) now′ then second b is long put ∙ ap (λ (x : List ℕ). with-front x old) (append-assoc (take a old) first second)
+
+module _ (t : Table) where
+  states-more : (s : ℕ) → joined (state-bytes t) (counting 0 s) ++ state-bytes t s ≡ joined (state-bytes t) (counting 0 (s + 1))
+  states-more s = joined-more (state-bytes t) [] (counting 0 s) s ∙ ap (joined (state-bytes t)) (sym counting-more)
+    where
+      counting-more : counting 0 (s + 1) ≡ counting 0 s ++ (s ∷ [])
+      counting-more = sym (map-id _) ∙ (map-counting-more (λ x. x) 0 s s (omega arith) ∙ ap (λ (xs : List ℕ). xs ++ (s ∷ [])) (map-id _))
+
+  pub state-step : (old now′ then : List ℕ) (s : ℕ) → 5 ≤ length old → now′ ≡ with-front (take 5 old ++ joined (state-bytes t) (counting 0 s)) old → then ≡ pasted (5 + 5 * s) (state-bytes t s) now′ → then ≡ with-front (take 5 old ++ joined (state-bytes t) (counting 0 (s + 1))) old
+  state-step old now′ then s h is put =
+      let size : 5 + 5 * s ≡ 5 + length (joined (state-bytes t) (counting 0 s)) = omega (arith, length-joined (state-bytes t) 5 (λ x. refl) (counting 0 s), length-counting 0 s) in
+      paste-grows old now′ then (joined (state-bytes t) (counting 0 s)) (state-bytes t s) 5 (5 + 5 * s) h is size put
+      ∙ ap (λ (x : List ℕ). with-front (take 5 old ++ x) old) (states-more s)
+
+  pub press-step : (old now′ then : List ℕ) (a b i : ℕ) → a ≤ length old → now′ ≡ with-front (take a old ++ joined press-bytes (presses t i)) old → b ≡ a + 7 * length (presses t i) → then ≡ pasted b (pair-bytes t i) now′ → then ≡ with-front (take a old ++ joined press-bytes (presses t (i + 1))) old
+  press-step old now′ then a b i h is at put =
+      let size : b ≡ a + length (joined press-bytes (presses t i)) = omega (arith, at, length-joined press-bytes 7 (λ x. refl) (presses t i)) in
+      paste-grows old now′ then (joined press-bytes (presses t i)) (pair-bytes t i) a b h is size put
+      ∙ ap (λ (x : List ℕ). with-front (take a old ++ x) old) (joined-pairs t i)
+
+  -- the header, the states, the presses and the end, one behind the other
+  pub writes-all : (old one two three four : List ℕ) (n e : ℕ) → n ≡ t .states → n ≤ 64 → e ≡ 5 + 5 * n + 7 * length (presses t (n * 16)) → one ≡ pasted 0 (68 ∷ 72 ∷ n ∷ 0 ∷ 16 ∷ []) old → two ≡ pasted 5 (joined (state-bytes t) (counting 0 n)) one → three ≡ pasted (5 + 5 * n) (joined press-bytes (presses t (n * 16))) two → four ≡ pasted e (68 ∷ 90 ∷ []) three → four ≡ with-front (file-of t) old
+  writes-all old one two three four n e is few at a b c d =
+      let low : n ≡ t .states % 256 = omega arith in
+      let high : 0 ≡ t .states / 256 = omega arith in
+      let header : 68 ∷ 72 ∷ n ∷ 0 ∷ 16 ∷ [] ≡ header-bytes t = λ j. 68 ∷ 72 ∷ low j ∷ high j ∷ 16 ∷ [] in
+      let first : one ≡ with-front (header-bytes t) old = grows old [] old one (68 ∷ 72 ∷ n ∷ 0 ∷ 16 ∷ []) 0 refl refl a ∙ ap (λ (x : List ℕ). with-front x old) header in
+      let second : two ≡ with-front (front-bytes t n) old = grows old (header-bytes t) one two (joined (state-bytes t) (counting 0 n)) 5 first refl b in
+      let third : three ≡ with-front (front-bytes t n ++ joined press-bytes (presses t (n * 16))) old =
+      grows old (front-bytes t n) two three (joined press-bytes (presses t (n * 16))) (5 + 5 * n) second (length-front t n) c
+      in
+      let third′ : three ≡ with-front (body-bytes t (t .states * 16)) old = third ∙ ap (λ (x : ℕ). with-front (front-bytes t x ++ joined press-bytes (presses t (x * 16))) old) is in
+      let size : length (body-bytes t (t .states * 16)) ≡ e = length-body t (t .states * 16) ∙ (ap (λ (x : ℕ). 5 + 5 * x + 7 * length (presses t (x * 16))) (sym is) ∙ sym at) in
+      grows old (body-bytes t (t .states * 16)) three four (68 ∷ 90 ∷ []) e third′ size d
+
+  -- a drawing's file can be taken, and gives the drawing's table
+  file-taken : Formed t → t .states ≤ 64 → t .events ≡ 16 → (before : Table) → after-take before (file-of t) ≡ t
+  file-taken f few events before =
+      let w = file-of t in
+      let y = file-layout t f few events in
+      let states : leb (file-states w) 64 ≡ true = le-leb _ _ (omega (arith, y .states-are, few)) in
+      let events′ : eqb (file-events w) 16 ≡ true = eq-eqb _ _ (y .events-are) in
+      let answer : take-answer w ≡ Ok tt =
+      ap (λ (o : Option Fault). unless-bad o (cond (leb (file-states w) 64 && eqb (file-events w) 16) (Ok tt) (refused DrawingFull (file-states w)))) (file-good t f few events)
+      ∙ cond-true _ _ _ (and-from _ _ states events′)
+      in
+      ap (λ (r : Result (Unit {0}) Fault). after r (file-table w) before) answer ∙ file-back t f few events
+
+  -- the number of bytes, and whether there is room for them
+  pub file-size : (size : ℕ) → size ≡ 5 + 5 * t .states + 7 * length (presses t (t .states * 16)) + 2 → size ≡ length (file-of t)
+  file-size size is = omega (arith, is, length-file t)
+
+  pub write-fits : (out : List ℕ) (size : ℕ) → size ≡ length (file-of t) → size ≤ length out → (Ok size ≡ write-answer t out) × (with-front (file-of t) out ≡ after-write t out)
+  write-fits out size is h =
+      let room : leb (length (file-of t)) (length out) ≡ true = le-leb _ _ (omega (arith, is)) in
+      (ap Ok is ∙ sym (cond-true _ _ _ room), sym (cond-true _ _ _ room))
+
+  pub write-short : (out : List ℕ) (size : ℕ) → size ≡ length (file-of t) → length out < size → (refused ListTooShort 1 ≡ write-answer t out) × (out ≡ after-write t out)
+  write-short out size is h =
+      let short : leb (length (file-of t)) (length out) ≡ false = lt-leb _ _ (omega (arith, is)) in
+      (sym (cond-false _ _ _ short), sym (cond-false _ _ _ short))
+
+  pub reads-back : Formed t → t .states ≤ 64 → t .events ≡ 16 → Reads-back t
+  reads-back f few events = record { accepted = file-good t f few events; same = file-back t f few events; taken = file-taken f few events }

@@ -15,6 +15,8 @@ use Rattle.faults.specs.declared.Fault.{Fault}
 use Rattle.faults.specs.declared.Cause.the-variants.{ListTooShort}
 use Rattle.tables.specs.Table.{Table}
 use Rattle.tables.specs.Drawings.{refused}
+use Rattle.tables.specs.Files.{fault-of, file-table}
+use Rattle.tables.specs.Takes.{after-take}
 
 pub record Press : Type 0 where
   pub from : ℕ
@@ -67,3 +69,9 @@ after-write table out = cond (leb (length (file-of table)) (length out)) (with-f
 -- the bytes of the i-th pair of a state and an event
 abbrev pub pair-bytes : Table → ℕ → List ℕ
 pair-bytes table i = joined press-bytes (press-here (i / 16) (i % 16) (table .next (i / 16) (i % 16)))
+
+-- What is written is an accepted file with the table that was written, and taking it gives that table back.
+pub record Reads-back (table : Table) : Type 0 where
+  pub accepted : fault-of (file-of table) ≡ None
+  pub same : file-table (file-of table) ≡ table
+  pub taken : (before : Table) → after-take before (file-of table) ≡ table

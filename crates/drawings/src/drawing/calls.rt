@@ -15,7 +15,7 @@ use faults::Fault;
 use faults::Layer;
 
 /// The refusal of a drawing's call.
-fn refusal(cause: Cause, place: usize) -> Fault
+pub(crate) fn refusal(cause: Cause, place: usize) -> Fault
     ensures { λ r. ⌜ r ≡ drawing-fault cause place ⌝ }
 {
     Fault {

@@ -18,5 +18,5 @@ returns-in-Err c =
     record {
       answer = sym (ap told bad);
       layout = (λ e. absurd (false≢true e), λ allowed. absurd (none-some (sym (accepted-by-layout bytes .1 allowed) ∙ bad)));
-      apart = tables-tell-files
+      apart = tables-tell-files;
     }

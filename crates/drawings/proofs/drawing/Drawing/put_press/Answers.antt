@@ -18,7 +18,7 @@ returns-in-Some c =
     let bytes = pair-some (drawn d) i (c .in-Some .to) is (omega (arith, d .few, c .pre .here)) (omega (arith, d .within i (c .in-Some .to) (c .in-Some .is), d .few)) in
     record {
       end = ap (λ (piece : List ℕ). c .args .at + length piece) bytes;
-      leaves = c .put .ensures ∙ ap (λ (piece : List ℕ). pasted (c .args .at) piece (c .args .out .now)) bytes
+      leaves = c .put .ensures ∙ ap (λ (piece : List ℕ). pasted (c .args .at) piece (c .args .out .now)) bytes;
     }
 
 pub returns-in-None : need.returns-in-None
@@ -29,5 +29,5 @@ returns-in-None c =
     let none = pair-none (drawn d) i is in
     record {
       end = omega (arith, ap length none);
-      leaves = sym (ap (λ (piece : List ℕ). pasted (c .args .at) piece (c .args .out .now)) none ∙ pasted-none (c .args .at) (c .args .out .now))
+      leaves = sym (ap (λ (piece : List ℕ). pasted (c .args .at) piece (c .args .out .now)) none ∙ pasted-none (c .args .at) (c .args .out .now));
     }

@@ -12,11 +12,16 @@ ghost-result g c =
     let f = g .D·Dialogue .formed d in
     let next = c .next-states-of .result in
     let long = c .next-states-of .ensures .long in
-    let same = c .next-states-of .ensures .same in
-    (omega (arith, c .states .ensures, c .pre .few),
-    (copied-fit t f (c .starts-of .result) (c .labels-of .result) next (c .pre .few) (c .pre .events) long same (c .labels-of .ensures .long) (c .labels-of .ensures .same),
-    (rw (c .states .ensures) (copied-within t f (c .starts-of .result) (c .labels-of .result) next (c .pre .few) (c .pre .events) long same),
-    (rw (c .states .ensures) (copied-clear t f (c .starts-of .result) (c .labels-of .result) next (c .pre .few) (c .pre .events) long same), tt))))
+    let same = c .next-states-of .ensures .same in (
+      omega (arith, c .states .ensures, c .pre .few),
+      (
+        copied-fit t f (c .starts-of .result) (c .labels-of .result) next (c .pre .few) (c .pre .events) long same (c .labels-of .ensures .long) (c .labels-of .ensures .same),
+        (
+          rw (c .states .ensures) (copied-within t f (c .starts-of .result) (c .labels-of .result) next (c .pre .few) (c .pre .events) long same),
+          (rw (c .states .ensures) (copied-clear t f (c .starts-of .result) (c .labels-of .result) next (c .pre .few) (c .pre .events) long same), tt),
+        ),
+      ),
+    )
 
 pub returns : need.returns
 returns g c =

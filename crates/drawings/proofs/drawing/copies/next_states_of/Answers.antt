@@ -8,6 +8,7 @@ use Rattle.drawings.proofs.drawing.copies.next_states_of.Needs as need
 
 pub loop-k-again : need.loop-k-again
 loop-k-again g c =
-    let l = c .loop-k in
-    (length-set (l .next) (l .k) (c .next-of .result) ∙ l .inv .0,
-    fill-more (λ k. g .D·Dialogue .table (c .args .dialogue .now) .next (k / 16) (k % 16)) (l .next) (l .k) (c .next-of .result) None (omega arith) (c .next-of .ensures) (l .inv .1))
+    let l = c .loop-k in (
+      length-set (l .next) (l .k) (c .next-of .result) ∙ l .inv .0,
+      fill-more (λ k. g .D·Dialogue .table (c .args .dialogue .now) .next (k / 16) (k % 16)) (l .next) (l .k) (c .next-of .result) None (omega arith) (c .next-of .ensures) (l .inv .1),
+    )
