@@ -2,3 +2,4 @@ pub mod Drawn
 pub mod Read
 pub mod Opened
 pub mod Calls
+pub mod Stores

@@ -10,10 +10,10 @@ pub mod questions;
 /// A dialogue over the bytes of a file, which are read where they lie. A bad file is the empty dialogue.
 #[derive(Clone, Copy)]
 pub struct File<'a> {
-    bytes: &'a [u8],
-    states: usize,
-    events: usize,
-    presses: usize,
+    pub(crate) bytes: &'a [u8],
+    pub(crate) states: usize,
+    pub(crate) events: usize,
+    pub(crate) presses: usize,
     ghost few: { states ≤ 4096 },
     ghost most: { events ≤ 64 },
     ghost room: { Room (now bytes) states presses },

@@ -3,3 +3,4 @@ pub mod call;
 pub mod checks;
 pub mod drawing;
 pub mod file;
+pub mod stored;
