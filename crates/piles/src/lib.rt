@@ -1,0 +1,3 @@
+//! Dialogues that are built at run time: drawings, files and free dialogues, with any pairs and bars above them.
+pub mod pile;
+pub mod questions;
