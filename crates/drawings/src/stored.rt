@@ -3,6 +3,7 @@ ghost use Prim.Native.Nat.{_≤_};
 ghost use Rattle.std.specs.Of.Vec.{vec-items};
 ghost use Rattle.tables.specs.Files.{Room, Exist, Ordered};
 
+pub mod names;
 pub mod questions;
 
 /// A file that owns its bytes: the same dialogue as that of the bytes where they lie.

@@ -1,3 +1,4 @@
 //! Dialogues that are built at run time: drawings, files and free dialogues, with any pairs and bars above them.
+pub mod make;
 pub mod pile;
 pub mod questions;

@@ -36,7 +36,7 @@ impl Stored {
     }
 
     /// The file where its bytes lie.
-    fn view(&self) -> File<'_>
+    pub(crate) fn view(&self) -> File<'_>
         ensures { λ r. ⌜ opened r ≡ kept (now (self .entry)) ⌝ }
     {
         File {
