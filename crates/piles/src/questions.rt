@@ -23,7 +23,7 @@ fn size_of<D: Dialogue>(dialogue: &D) -> Size
 
 impl Pile {
     /// How many states and events the pile has.
-    fn size(&self) -> Size
+    pub(crate) fn size(&self) -> Size
         ensures states { λ r. ⌜ r .states ≡ pile-table (now (self .entry)) .states ⌝ }
         ensures events { λ r. ⌜ r .events ≡ pile-table (now (self .entry)) .events ⌝ }
     {

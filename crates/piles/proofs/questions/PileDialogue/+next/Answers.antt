@@ -19,27 +19,33 @@ cast-result-then-event-shift t c =
     let l = c .in-Pair .left .value in
     let r = c .in-Pair .right .value in
     let n-is = size-is (pile-table l) (pile-table r) (pile-formed l) (pile-formed r) _ _ _ _ (c .pair-size .result .states)
-      (states-of _ l _ (c .size .ensures .states) (c .deref-in-Pair .ensures)) (states-of _ r _ (c .size-in-Pair .ensures .states) (c .deref-in-Pair-2 .ensures))
-      (events-of _ l _ (c .size .ensures .events) (c .deref-in-Pair .ensures)) (events-of _ r _ (c .size-in-Pair .ensures .events) (c .deref-in-Pair-2 .ensures)) (c .pair-size .ensures .states)
+    (states-of _ l _ (c .size .ensures .states) (c .deref-in-Pair .ensures)) (states-of _ r _ (c .size-in-Pair .ensures .states) (c .deref-in-Pair-2 .ensures))
+    (events-of _ l _ (c .size .ensures .events) (c .deref-in-Pair .ensures)) (events-of _ r _ (c .size-in-Pair .ensures .events) (c .deref-in-Pair-2 .ensures)) (c .pair-size .ensures .states)
     in
     let below : c .args .state < pair-states (pile-table l) (pile-table r) = omega (arith, n-is, c .if-state-pair-size .left) in
     let moves : pile-table l .next (c .args .state / c .size-width .result .states) (c .args .event) ≡ Some (c .in-Continue-to .to) =
-      sym (c .next-then-event-shift .ensures ∙ ap (λ (p : Pile). pile-table p .next (c .args .state / c .size-width .result .states) (c .args .event)) (c .deref-then-event-shift .ensures)) ∙ c .in-Continue-to .was tt
+    sym (c .next-then-event-shift .ensures ∙ ap (λ (p : Pile). pile-table p .next (c .args .state / c .size-width .result .states) (c .args .event)) (c .deref-then-event-shift .ensures)) ∙ c .in-Continue-to .was tt
     in
-    omega (arith, left-fits (pile-table l) (pile-table r) (pile-formed l) (pile-formed r) (c .args .state) (c .in-Continue-to .to) (c .args .event) (c .size-width .result .states)
-    (states-of _ r _ (c .size-width .ensures .states) (c .deref-in-Pair-3 .ensures)) below moves)
+    omega (
+      arith,
+      left-fits (pile-table l) (pile-table r) (pile-formed l) (pile-formed r) (c .args .state) (c .in-Continue-to .to) (c .args .event) (c .size-width .result .states)
+          (states-of _ r _ (c .size-width .ensures .states) (c .deref-in-Pair-3 .ensures)) below moves,
+    )
 
 pub cast-result-else-event-shift-2 : need.cast-result-else-event-shift-2
 cast-result-else-event-shift-2 t c =
     let l = c .in-Pair .left .value in
     let r = c .in-Pair .right .value in
     let n-is = size-is (pile-table l) (pile-table r) (pile-formed l) (pile-formed r) _ _ _ _ (c .pair-size .result .states)
-      (states-of _ l _ (c .size .ensures .states) (c .deref-in-Pair .ensures)) (states-of _ r _ (c .size-in-Pair .ensures .states) (c .deref-in-Pair-2 .ensures))
-      (events-of _ l _ (c .size .ensures .events) (c .deref-in-Pair .ensures)) (events-of _ r _ (c .size-in-Pair .ensures .events) (c .deref-in-Pair-2 .ensures)) (c .pair-size .ensures .states)
+    (states-of _ l _ (c .size .ensures .states) (c .deref-in-Pair .ensures)) (states-of _ r _ (c .size-in-Pair .ensures .states) (c .deref-in-Pair-2 .ensures))
+    (events-of _ l _ (c .size .ensures .events) (c .deref-in-Pair .ensures)) (events-of _ r _ (c .size-in-Pair .ensures .events) (c .deref-in-Pair-2 .ensures)) (c .pair-size .ensures .states)
     in
     let below : c .args .state < pair-states (pile-table l) (pile-table r) = omega (arith, n-is, c .if-state-pair-size .left) in
     let moves : pile-table r .next (c .args .state % c .size-width .result .states) (c .args .event - c .size-shift .result .events) ≡ Some (c .in-Continue-to-2 .to) =
-      sym (c .next-else-event-shift .ensures ∙ ap (λ (p : Pile). pile-table p .next (c .args .state % c .size-width .result .states) (c .args .event - c .size-shift .result .events)) (c .deref-else-event-shift .ensures)) ∙ c .in-Continue-to-2 .was tt
+    sym (c .next-else-event-shift .ensures ∙ ap (λ (p : Pile). pile-table p .next (c .args .state % c .size-width .result .states) (c .args .event - c .size-shift .result .events)) (c .deref-else-event-shift .ensures)) ∙ c .in-Continue-to-2 .was tt
     in
-    omega (arith, right-fits (pile-table l) (pile-table r) (pile-formed l) (pile-formed r) (c .args .state) (c .in-Continue-to-2 .to) (c .args .event - c .size-shift .result .events) (c .size-width .result .states)
-    (states-of _ r _ (c .size-width .ensures .states) (c .deref-in-Pair-3 .ensures)) below moves)
+    omega (
+      arith,
+      right-fits (pile-table l) (pile-table r) (pile-formed l) (pile-formed r) (c .args .state) (c .in-Continue-to-2 .to) (c .args .event - c .size-shift .result .events) (c .size-width .result .states)
+          (states-of _ r _ (c .size-width .ensures .states) (c .deref-in-Pair-3 .ensures)) below moves,
+    )

@@ -10,5 +10,5 @@ returns c =
     let events = ap (λ (t : Table). t .events) (c .view .ensures) in
     record {
       exists = c .name .ensures .exists ∙ ap (λ (m : ℕ). ltb (c .args .event) m) events;
-      spells = c .name .ensures .spells ∙ ap (λ (m : ℕ). file-name m (c .args .event)) events
+      spells = c .name .ensures .spells ∙ ap (λ (m : ℕ). file-name m (c .args .event)) events;
     }
