@@ -16,7 +16,7 @@ use Rattle.std.proofs.shelf.Ways.{tells}
 use Rattle.std.proofs.shelf.Tests.{cond-both, cond-true, cond-false, cases-bool, ltb-true, lt-ltb, eqb-true, eq-eqb, ne-eqb, and-parts, and-from, and-left, and-right}
 use Rattle.faults.specs.declared.Fault.{Fault}
 use Rattle.tables.specs.Table.{Table, Formed, empty}
-use Rattle.tables.proofs.Cells.{same-tables}
+use Rattle.tables.proofs.Same.{same-tables}
 use Rattle.tables.specs.Files.{byte, word, state-place, press-place, press-from, press-event, press-to, press-key, Layout, found, filed, Room, Exist, Ordered, Place, fault-of, file-states, file-events, press-count, by-fault, file-table, file-name}
 
 module _ (bytes : List ℕ) (n : ℕ) where

@@ -142,7 +142,7 @@ module _ (bytes : List ℕ) where
       let b = other-none (states-fault bytes n) _ (a .1) in
       let head = other-none (whole-fault bytes 0 72 72 5) _ (a .0) in
       let begun = whole bytes 0 72 72 5 (head .0) in
-      let limits = limited _ _ (unless-none _ _ (head .1)) in
+      let limits : (n ≤ 4096) × (0 < m) × (m ≤ 64) = limited n m (unless-none _ _ (head .1)) in
       let room : press-place n 0 ≤ length bytes = states-room n (begun .1) (b .0) in
       let (p, c) = closes n m (length bytes) 0 (omega arith) room (b .1) in (
         p,

@@ -26,7 +26,7 @@ use Rattle.faults.specs.declared.Cause.the-variants.{DrawingFull, ListTooShort}
 use Rattle.tables.specs.Drawings.{refused, after}
 use Rattle.tables.specs.Takes.{unless-bad, take-answer, after-take}
 use Rattle.tables.specs.Writes.{Press, header-bytes, state-bytes, press-bytes, press-here, presses, front-bytes, body-bytes, file-of, with-front, pasted, pair-bytes, write-answer, after-write, Reads-back}
-use Rattle.tables.proofs.Cells.{same-tables}
+use Rattle.tables.proofs.Same.{same-tables}
 use Rattle.tables.proofs.Files.{layout-accepted}
 use Rattle.tables.proofs.Filed.{found-at, found-none, layout-exist, layout-ordered, good-file}
 
@@ -284,7 +284,7 @@ module _ (t : Table) where
             let p = pressed t (t .states * 16) .leads-on k h in
             let from-is : at ps k .from ≡ s = sym (from-read k h) ∙ a in
             let event-is : at ps k .event ≡ e = sym (event-read k h) ∙ b in
-            let z : _≡_ {A = ℕ} 0 1 = cc (p, is, ap (λ (x : ℕ). t .next x (at ps k .event)) from-is, ap (λ (x : ℕ). t .next s x) event-is) in
+            let z : _≡_ {A = ℕ} 0 1 = cc (p, is, from-is, event-is) in
             omega arith) ∙ sym is
         by-next (Some to) is =
             let s-in : s < t .states = state-in s e to is in
