@@ -1,6 +1,4 @@
 //! Bars.
-ghost use mathlib.Core.Path.{_≡_};
-ghost use mathlib.Core.Bool.{cond};
 ghost use Rattle.tables.specs.Layers.{barred};
 ghost use Rattle.tables.proofs.Layers.{barred-formed};
 use crate::dialogue::Dialogue;

@@ -1,7 +1,6 @@
 //! Dialogues whose events have names.
 ghost use mathlib.Core.Path.{_≡_};
-ghost use mathlib.Core.List.{List, []};
-ghost use mathlib.Core.Bool.{cond};
+ghost use mathlib.Core.List.{List};
 ghost use Prim.Native.Nat.{ℕ, _-_};
 ghost use denote.Ref.{now};
 ghost use lib.Dec.{ltb};

@@ -2,13 +2,11 @@
 use mathlib.Core.Path.{_≡_}
 use mathlib.Core.List.{List}
 use Prim.Native.Nat.{ℕ}
-use denote.Ref.{now}
 use Rattle.std.specs.declared.option.Option.the-variants.{Some, None}
 use Rattle.std.specs.declared.result.Result.{Result}
 use Rattle.std.specs.declared.result.Result.the-variants.{Ok, Err}
 use Rattle.faults.specs.declared.Fault.{Fault}
-use Rattle.tables.specs.Table.{Table}
-use Rattle.tables.specs.Files.{Layout, fault-of, file-states, file-events, filed}
+use Rattle.tables.specs.Files.{Layout, fault-of}
 use Rattle.drawings.specs.declared.checks.Outline.{Outline}
 
 -- a bad file's fault, or the numbers of states, events and presses of a good one

@@ -5,7 +5,6 @@ ghost use Prim.Native.Nat.{_+_, _*_, _<_, _≤_};
 ghost use lib.ListN.{length};
 ghost use Rattle.std.specs.Orderings.{Decides};
 ghost use Rattle.std.specs.Results.{isOk};
-ghost use Rattle.std.specs.declared.option.Option.the-variants.{None};
 ghost use Rattle.drawings.specs.Read.{Outlined};
 ghost use Rattle.tables.specs.Files.{Allowed, Tables-tell-files, fault-of, word as word-at, file-fault, mark-wrong, whole-fault, told, header-fault, state-fault, states-fault, press-place, press-fault, place-fault, press-allowed, press-key as key-at, is-end as is-end-at, Ends};
 use faults::Cause;

@@ -1,7 +1,6 @@
 //! Drawings.
-ghost use mathlib.Core.Path.{_≡_};
 ghost use Prim.Native.Nat.{ℕ, _<_, _≤_};
-ghost use lib.ListN.{length, getD};
+ghost use lib.ListN.{getD};
 ghost use Rattle.tables.specs.Cells.{Within, Clear};
 
 mod calls;

@@ -1,12 +1,12 @@
 -- A drawing's lists keep the limits, and each write to them is the change of the table that the call asks for.
-use mathlib.Core.Path.{_≡_, refl, sym, ap, subst, _∙_}
+use mathlib.Core.Path.{_≡_, refl, sym, ap, _∙_}
 use mathlib.Core.List.{List}
 use mathlib.Core.Logic.{inl, inr}
-use mathlib.Core.Bool.{Bool, true, false, _&&_, cond}
-use Prim.Native.Nat.{ℕ, zero, suc, _+_, _-_, _*_, _/_, _%_, _^_, _<_, _≤_}
+use mathlib.Core.Bool.{Bool, false, cond}
+use Prim.Native.Nat.{ℕ, zero, suc, _+_, _*_, _/_, _%_, _^_, _<_, _≤_}
 use native.Mathlib.Omega.{arith}
 use native.Mathlib.Decide.{decLt}
-use lib.Dec.{ltb, leb, eqb}
+use lib.Dec.{ltb, eqb}
 use lib.ListN.{length, getD, set, replicate}
 use Rattle.std.specs.declared.option.Option.{Option}
 use Rattle.std.specs.declared.option.Option.the-variants.{Some, None}
@@ -14,14 +14,10 @@ use Rattle.std.proofs.shelf.Ways.{tells}
 use Rattle.std.proofs.shelf.Lists.{getD-set-same, getD-set-other, getD-past}
 use Rattle.std.proofs.shelf.Tests.{cond-both, cond-true, lt-ltb, eqb-true, ltb-true, ltb-false, cases-eq}
 use Rattle.std.proofs.shelf.Edits.{fill-by-more}
+use Rattle.tables.proofs.Same.{same-tables}
 use Rattle.tables.specs.Table.{Table, Formed}
 use Rattle.tables.specs.Cells.{cells, Within, Clear, Copied}
 use Rattle.tables.specs.Drawings.{blank, appended, relabelled, redirected}
-
--- two tables are equal where each of their answers is
-pub same-tables : (a b : Table) → a .states ≡ b .states → a .events ≡ b .events → ((s : ℕ) → a .start s ≡ b .start s) → ((s : ℕ) → a .label s ≡ b .label s) → ((s e : ℕ) → a .next s e ≡ b .next s e) → a ≡ b
-same-tables a b states events start label next =
-    λ i. record { states = states i; events = events i; start = λ s. start s i; label = λ s. label s i; next = λ s e. next s e i }
 
 pub cells-formed : (count : ℕ) (starts : List Bool) (labels : List ℕ) (next : List (Option ℕ)) → count ≤ 64 → ((s : ℕ) → getD labels s 0 < 65536) → Within count next → Clear count next → Formed (cells count starts labels next)
 cells-formed count starts labels next few fit within clear =

@@ -1,23 +1,22 @@
 -- Reading a file record by record comes to its earliest fault.
-use mathlib.Core.Path.{_≡_, refl, sym, ap, subst, _∙_}
+use mathlib.Core.Path.{_≡_, refl, sym, ap, _∙_}
 use mathlib.Core.List.{List}
-use mathlib.Core.Bool.{Bool, true, false, not, _&&_, _||_, cond}
-use mathlib.Core.Logic.{_⊎_, inl, inr}
-use Prim.Native.Nat.{ℕ, zero, suc, _+_, _-_, _*_, _/_, _%_, _^_, _<_, _≤_}
+use mathlib.Core.Bool.{Bool, true, false, cond}
+use Prim.Native.Nat.{ℕ, zero, suc, _+_, _-_, _*_, _<_, _≤_}
 use native.Mathlib.Omega.{arith}
 use native.Mathlib.Decide.{decLt}
-use lib.Dec.{ltb, leb, eqb}
-use lib.ListN.{length, getD}
+use lib.Dec.{ltb, leb}
+use lib.ListN.{length}
 use Rattle.std.specs.declared.option.Option.{Option}
 use Rattle.std.specs.declared.option.Option.the-variants.{Some, None}
 use Rattle.std.specs.declared.result.Result.{Result}
 use Rattle.std.specs.declared.result.Result.the-variants.{Ok, Err}
 use Rattle.std.specs.Options.{orOther}
 use Rattle.std.proofs.shelf.Ways.{tells}
-use Rattle.std.proofs.shelf.Tests.{cond-both, cond-true, cond-false, cases-bool, leb-true, leb-false, le-leb, lt-leb}
+use Rattle.std.proofs.shelf.Tests.{cond-both, cond-true, cond-false, leb-false, le-leb, lt-leb}
 use Rattle.faults.specs.declared.Fault.{Fault}
-use Rattle.faults.specs.declared.Cause.the-variants.{FileTooShort, BadMark, BadRecord, TrailingBytes}
-use Rattle.tables.specs.Files.{byte, word, file-states, file-events, state-place, press-place, press-from, press-event, press-to, press-key, mark-wrong, whole-fault, unless, file-fault, header-fault, state-fault, states-fault, is-end, press-allowed, press-fault, place-fault, tail-fault, fault-of, told, Ends}
+use Rattle.faults.specs.declared.Cause.the-variants.{FileTooShort, BadMark, TrailingBytes}
+use Rattle.tables.specs.Files.{state-place, press-place, mark-wrong, whole-fault, unless, file-fault, state-fault, states-fault, is-end, press-fault, place-fault, tail-fault, told, Ends}
 
 -- what an answer tells of the fault behind it
 pub told-ok : {u : Unit {0}} (o : Option Fault) → told o ≡ Ok u → o ≡ None
@@ -119,7 +118,3 @@ module _ (bytes : List ℕ) where
     pub ends-well : (k : ℕ) → press-place n k ≤ length bytes → place-fault bytes n m k ≡ None → is-end bytes (press-place n k) ≡ true → length bytes ≤ press-place n k + 2 → Reads k → (tail-fault bytes n m (length bytes) 0 ≡ None) × (length bytes ≡ 7 + 5 * n + 7 * k)
     ends-well k h good end last reads =
         (sym reads ∙ (tail-ends k h good end ∙ ap (λ (b : Bool). unless b (file-fault TrailingBytes (press-place n k + 2))) (le-leb _ _ last)), omega (arith, place-whole k good))
-
--- no fault is a fault
-pub none-some : {f : Fault} → _≡_ {A = Option Fault} None (Some f) → ⊥
-none-some e = let z : _≡_ {A = ℕ} 0 1 = cc in omega arith

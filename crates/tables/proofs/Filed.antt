@@ -1,23 +1,22 @@
 -- The table of a file: what its presses say, its limits, and what a search by halving finds.
-use mathlib.Core.Path.{_≡_, refl, sym, ap, subst, _∙_}
+use mathlib.Core.Path.{_≡_, refl, sym, ap, _∙_}
 use mathlib.Core.List.{List, [], _∷_, _++_}
-use mathlib.Core.Bool.{Bool, true, false, _&&_, cond}
-use mathlib.Core.Logic.{_⊎_, inl, inr}
-use Prim.Native.Nat.{ℕ, zero, suc, _+_, _-_, _*_, _/_, _%_, _^_, _<_, _≤_}
+use mathlib.Core.Bool.{true, false, _&&_}
+use mathlib.Core.Logic.{inl, inr}
+use Prim.Native.Nat.{ℕ, zero, suc, _+_, _*_, _/_, _%_, _^_, _<_, _≤_}
 use native.Mathlib.Omega.{arith}
 use native.Mathlib.Decide.{decLt}
-use lib.Dec.{ltb, leb, eqb}
-use lib.ListN.{length, getD}
+use lib.Dec.{ltb, eqb}
 use Rattle.std.specs.declared.option.Option.{Option}
 use Rattle.std.specs.declared.option.Option.the-variants.{Some, None}
 use Rattle.std.specs.Written.{decimal}
 use Rattle.std.proofs.shelf.Decimals.{decimal-digit, decimal-step}
 use Rattle.std.proofs.shelf.Ways.{tells}
-use Rattle.std.proofs.shelf.Tests.{cond-both, cond-true, cond-false, cases-bool, ltb-true, lt-ltb, eqb-true, eq-eqb, ne-eqb, and-parts, and-from, and-left, and-right}
+use Rattle.std.proofs.shelf.Tests.{cond-both, cond-true, cond-false, cases-bool, lt-ltb, eqb-true, eq-eqb, and-parts, and-from}
 use Rattle.faults.specs.declared.Fault.{Fault}
-use Rattle.tables.specs.Table.{Table, Formed, empty}
-use Rattle.tables.proofs.Cells.{same-tables}
-use Rattle.tables.specs.Files.{byte, word, state-place, press-place, press-from, press-event, press-to, press-key, Layout, found, filed, Room, Exist, Ordered, Place, fault-of, file-states, file-events, press-count, by-fault, file-table, file-name}
+use Rattle.tables.specs.Table.{Formed, empty}
+use Rattle.tables.proofs.Same.{same-tables, some-same}
+use Rattle.tables.specs.Files.{word, state-place, press-place, press-from, press-event, press-to, press-key, Layout, found, filed, Room, Exist, Ordered, Place, fault-of, file-states, file-events, press-count, by-fault, file-table, file-name}
 
 module _ (bytes : List ℕ) (n : ℕ) where
   abbrev from : ℕ → ℕ
@@ -49,9 +48,6 @@ module _ (bytes : List ℕ) (n : ℕ) where
         | inr no′ ↦ let l = listed-from s e t k (sym (cond-false _ _ _ no′) ∙ h) in
             record { at = l .at; listed = omega (arith, l .listed); from-is = l .from-is; event-is = l .event-is; to-is = l .to-is }
       ]
-    where
-      some-same : {a b : ℕ} → Some a ≡ Some b → a ≡ b
-      some-same e = cc
 
   -- nothing is found where no record is
   pub found-none : (s e p : ℕ) → ((k : ℕ) → k < p → from k ≡ s → event k ≡ e → ⊥) → found bytes n s e p ≡ None

@@ -1,21 +1,17 @@
 -- Files: a file without a fault is one that the layout allows, and its table keeps the limits.
-use mathlib.Core.Path.{_≡_, refl, sym, ap, subst, _∙_}
+use mathlib.Core.Path.{_≡_, refl, sym, subst, _∙_}
 use mathlib.Core.List.{List}
-use mathlib.Core.Bool.{Bool, true, false, not, _&&_, _||_, cond}
+use mathlib.Core.Bool.{Bool, true, false, _&&_, _||_}
 use mathlib.Core.Logic.{_⊎_, inl, inr}
-use Prim.Native.Nat.{ℕ, zero, suc, _+_, _-_, _*_, _/_, _%_, _^_, _<_, _≤_}
+use Prim.Native.Nat.{ℕ, zero, suc, _+_, _-_, _*_, _<_, _≤_}
 use native.Mathlib.Omega.{arith}
 use native.Mathlib.Decide.{decLt}
 use lib.Dec.{ltb, leb, eqb}
-use lib.ListN.{length, getD}
-use Rattle.std.specs.declared.option.Option.{Option}
-use Rattle.std.specs.declared.option.Option.the-variants.{Some, None}
-use Rattle.std.specs.Options.{orOther}
+use lib.ListN.{length}
+use Rattle.std.specs.declared.option.Option.the-variants.{None}
 use Rattle.std.proofs.shelf.Ways.{tells}
-use Rattle.std.proofs.shelf.Tests.{cond-both, cond-true, cond-false, cases-bool, leb-true, leb-false, le-leb, le-ltb, ltb-true, lt-ltb, eqb-true, eqb-false, and-parts, and-from, or-cases, or-right, eq-eqb, ne-eqb}
-use Rattle.faults.specs.declared.Fault.{Fault}
-use Rattle.tables.specs.Table.{Table, Formed}
-use Rattle.tables.specs.Files.{byte, word, file-states, file-events, state-place, press-place, press-from, press-event, press-to, press-key, marked, Layout, Allowed, found, filed, mark-wrong, whole-fault, unless, file-fault, header-fault, state-fault, states-fault, is-end, press-allowed, press-fault, place-fault, tail-fault, fault-of}
+use Rattle.std.proofs.shelf.Tests.{cond-true, cond-false, cases-bool, leb-true, le-leb, le-ltb, ltb-true, lt-ltb, eqb-true, eqb-false, and-parts, and-from, or-cases, or-right, eq-eqb, ne-eqb}
+use Rattle.tables.specs.Files.{byte, file-states, file-events, state-place, press-place, press-from, press-event, press-to, press-key, marked, Layout, mark-wrong, whole-fault, header-fault, state-fault, states-fault, is-end, press-allowed, place-fault, tail-fault, fault-of}
 use Rattle.tables.proofs.Checks.{other-none, other-skip, unless-none, whole, state-whole, press-whole, place-whole}
 
 -- a mark that is there, and right
@@ -142,7 +138,7 @@ module _ (bytes : List ℕ) where
       let b = other-none (states-fault bytes n) _ (a .1) in
       let head = other-none (whole-fault bytes 0 72 72 5) _ (a .0) in
       let begun = whole bytes 0 72 72 5 (head .0) in
-      let limits = limited _ _ (unless-none _ _ (head .1)) in
+      let limits : (n ≤ 4096) × (0 < m) × (m ≤ 64) = limited n m (unless-none _ _ (head .1)) in
       let room : press-place n 0 ≤ length bytes = states-room n (begun .1) (b .0) in
       let (p, c) = closes n m (length bytes) 0 (omega arith) room (b .1) in (
         p,

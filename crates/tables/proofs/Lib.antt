@@ -1,3 +1,4 @@
+pub mod Same
 pub mod Layers
 pub mod Cells
 pub mod Checks

@@ -1,24 +1,21 @@
 -- Two good files with one table have the same bytes.
-use mathlib.Core.Path.{_≡_, refl, sym, ap, subst, _∙_}
+use mathlib.Core.Path.{_≡_, sym, ap, subst, _∙_}
 use mathlib.Core.List.{List}
-use mathlib.Core.Bool.{Bool, true, false, cond}
-use Prim.Native.Nat.{ℕ, zero, suc, _+_, _-_, _*_, _/_, _%_, _^_, _<_, _≤_}
+use mathlib.Core.Bool.{false}
+use Prim.Native.Nat.{ℕ, zero, suc, _+_, _-_, _*_, _/_, _%_, _<_, _≤_}
 use native.Mathlib.Omega.{arith}
 use native.Mathlib.Decide.{decLt}
-use lib.Dec.{ltb, leb, eqb}
-use lib.ListN.{length, getD}
-use Rattle.std.specs.declared.option.Option.{Option}
-use Rattle.std.specs.declared.option.Option.the-variants.{Some, None}
+use lib.Dec.{eqb}
+use lib.ListN.{length}
+use Rattle.std.specs.declared.option.Option.the-variants.{Some}
 use Rattle.std.proofs.shelf.Ways.{tells}
 use Rattle.std.proofs.shelf.Lists.{ext-getD}
 use Rattle.std.proofs.shelf.Tests.{cond-true, lt-ltb}
 use Rattle.tables.specs.Table.{Table}
-use Rattle.tables.specs.Files.{byte, word, file-states, file-events, state-place, press-place, press-from, press-event, press-to, press-key, marked, Layout, Allowed, found, filed, Ordered, Bytes, fault-of, file-table, Accepted-by-layout, Tables-tell-files}
+use Rattle.tables.specs.Files.{byte, word, file-states, file-events, state-place, press-place, press-from, press-event, press-to, press-key, marked, Layout, found, filed, Ordered, Bytes, file-table, Accepted-by-layout, Tables-tell-files}
+use Rattle.tables.proofs.Same.{some-same}
 use Rattle.tables.proofs.Files.{accepted-layout, layout-accepted}
 use Rattle.tables.proofs.Filed.{Listed, listed-from, found-at, layout-exist, layout-ordered, good-file}
-
-some-same : {a b : ℕ} → Some a ≡ Some b → a ≡ b
-some-same e = cc
 
 -- the two bytes of a number
 split : (a b : List ℕ) (i : ℕ) → Bytes a → Bytes b → word a i ≡ word b i → (byte a i ≡ byte b i) × (byte a (i + 1) ≡ byte b (i + 1))

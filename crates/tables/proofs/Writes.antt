@@ -2,7 +2,7 @@
 use mathlib.Core.Path.{_≡_, refl, sym, ap, subst, _∙_}
 use mathlib.Core.List.{List, [], _∷_, _++_, append-assoc, append-nil}
 use mathlib.Core.Bool.{Bool, true, false, _&&_, cond}
-use Prim.Native.Nat.{ℕ, zero, suc, _+_, _-_, _*_, _/_, _%_, _^_, _<_, _≤_}
+use Prim.Native.Nat.{ℕ, zero, suc, _+_, _-_, _*_, _/_, _%_, _<_, _≤_}
 use native.Mathlib.Omega.{arith}
 use native.Mathlib.Nat.{suc-mul, zero-mul, zero-add, mul-comm}
 use native.Mathlib.Decide.{decLt}
@@ -12,13 +12,12 @@ use Rattle.std.specs.Iters.{counting}
 use Rattle.std.specs.Joined.{joined}
 use Rattle.std.specs.declared.option.Option.{Option}
 use Rattle.std.specs.declared.option.Option.the-variants.{Some, None}
-use Rattle.std.proofs.shelf.Ways.{tells}
-use Rattle.std.proofs.shelf.Lists.{length-append, length-push, getD-append-left, getD-append-right, getD-append-add, getD-push, take-at, drop-at, drop-drop, joined-more, map-id, length-take-le, take-append-drop}
+use Rattle.std.proofs.shelf.Lists.{length-append, length-push, getD-append-left, getD-append-add, getD-push, take-at, drop-at, drop-drop, joined-more, map-id, length-take-le, take-append-drop}
 use Rattle.std.proofs.shelf.Counted.{length-counting, getD-counting, map-counting-more}
 use Rattle.std.specs.Options.{isSome}
 use Rattle.std.proofs.shelf.Tests.{cond-both, cond-true, cond-false, ltb-true, ltb-false, le-leb, lt-leb, eq-eqb, and-from, true≢false, false≢true}
 use Rattle.tables.specs.Table.{Table, Formed}
-use Rattle.tables.specs.Files.{byte, word, marked, state-place, press-place, press-from, press-event, press-to, press-key, Layout, found, filed, fault-of, file-states, file-events, file-table}
+use Rattle.tables.specs.Files.{byte, word, state-place, press-place, press-from, press-event, press-to, Layout, found, filed, fault-of, file-states, file-events, file-table}
 use Rattle.std.specs.declared.result.Result.{Result}
 use Rattle.std.specs.declared.result.Result.the-variants.{Ok}
 use Rattle.faults.specs.declared.Fault.{Fault}
@@ -26,7 +25,7 @@ use Rattle.faults.specs.declared.Cause.the-variants.{DrawingFull, ListTooShort}
 use Rattle.tables.specs.Drawings.{refused, after}
 use Rattle.tables.specs.Takes.{unless-bad, take-answer, after-take}
 use Rattle.tables.specs.Writes.{Press, header-bytes, state-bytes, press-bytes, press-here, presses, front-bytes, body-bytes, file-of, with-front, pasted, pair-bytes, write-answer, after-write, Reads-back}
-use Rattle.tables.proofs.Cells.{same-tables}
+use Rattle.tables.proofs.Same.{same-tables, some-same}
 use Rattle.tables.proofs.Files.{layout-accepted}
 use Rattle.tables.proofs.Filed.{found-at, found-none, layout-exist, layout-ordered, good-file}
 
@@ -132,9 +131,6 @@ module _ (t : Table) where
             | yes lt ↦ subst P (sym (getD-append-left ps (new ∷ []) no-press k lt)) (old lt)
             | no ge ↦ let last : k ≡ length ps = omega (arith, length-push ps new) in subst P (sym (ap (at (ps ++ (new ∷ []))) last ∙ getD-push ps new no-press (length ps) refl)) fresh
           ]
-
-      some-same : {a b : ℕ} → Some a ≡ Some b → a ≡ b
-      some-same e = cc
 
       same-press : (s e to′ : ℕ) → t .next s e ≡ Some to′ → i / 16 ≡ s → i % 16 ≡ e → new ≡ record { from = s; event = e; to = to′ }
       same-press s e to′ is′ q r =
@@ -284,7 +280,7 @@ module _ (t : Table) where
             let p = pressed t (t .states * 16) .leads-on k h in
             let from-is : at ps k .from ≡ s = sym (from-read k h) ∙ a in
             let event-is : at ps k .event ≡ e = sym (event-read k h) ∙ b in
-            let z : _≡_ {A = ℕ} 0 1 = cc (p, is, ap (λ (x : ℕ). t .next x (at ps k .event)) from-is, ap (λ (x : ℕ). t .next s x) event-is) in
+            let z : _≡_ {A = ℕ} 0 1 = cc (p, is, from-is, event-is) in
             omega arith) ∙ sym is
         by-next (Some to) is =
             let s-in : s < t .states = state-in s e to is in

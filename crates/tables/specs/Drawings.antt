@@ -1,6 +1,6 @@
 -- Drawings: what each call answers and what it leaves, in terms of the table so far. A drawing has 16 events and up to 64 states. Arguments
 -- are counted from 1. A refused call alters nothing.
-use mathlib.Core.Bool.{Bool, true, false, _&&_, cond}
+use mathlib.Core.Bool.{Bool, _&&_, cond}
 use Prim.Native.Nat.{ℕ, _+_}
 use mathlib.Core.List.{List, [], _∷_}
 use lib.Chars.{codes}

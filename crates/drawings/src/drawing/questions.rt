@@ -1,5 +1,4 @@
 //! A drawing is a dialogue.
-ghost use mathlib.Core.Path.{_≡_};
 ghost use Rattle.tables.proofs.Cells.{cells-formed};
 ghost use Rattle.drawings.specs.Drawn.{drawn};
 use crate::drawing::Drawing;

@@ -1,5 +1,4 @@
 //! A file is a dialogue.
-ghost use mathlib.Core.Path.{_≡_};
 ghost use Prim.Native.Nat.{_≤_};
 ghost use denote.Ref.{now};
 ghost use Rattle.tables.specs.Files.{Room, Ordered, Place};

@@ -1,7 +1,7 @@
-use mathlib.Core.Path.{_≡_, refl, sym, ap, _∙_}
+use mathlib.Core.Path.{refl, sym, ap, _∙_}
 use Rattle.tables.specs.Files.{told}
 use Rattle.std.proofs.shelf.Tests.{false≢true}
-use Rattle.tables.proofs.Checks.{none-some}
+use Rattle.tables.proofs.Same.{none-some}
 use Rattle.tables.proofs.Unique.{accepted-by-layout, tables-tell-files}
 use Rattle.drawings.proofs.checks.check_file.Needs as need
 

@@ -1,8 +1,5 @@
-use mathlib.Core.Path.{_≡_, sym}
-use Prim.Native.Nat.{_≤_}
+use mathlib.Core.Path.{sym}
 use native.Mathlib.Omega.{arith}
-use Rattle.std.specs.declared.option.Option.the-variants.{None}
-use Rattle.tables.specs.Files.{header-fault, states-fault, file-states}
 use Rattle.tables.proofs.Checks.{told-ok}
 use Rattle.tables.proofs.Files.{header-begun, states-room, read-through}
 use Rattle.drawings.proofs.checks.read_file.Needs as need

@@ -1,10 +1,10 @@
 use mathlib.Core.Path.{_≡_, sym, ap, _∙_}
-use mathlib.Core.List.{List, []}
-use Prim.Native.Nat.{ℕ, _<_, _+_, _/_, _%_}
+use mathlib.Core.List.{List}
+use Prim.Native.Nat.{ℕ, _+_, _/_, _%_}
 use native.Mathlib.Omega.{arith}
 use lib.ListN.{length}
 use Rattle.std.specs.declared.option.Option.the-variants.{Some, None}
-use Rattle.tables.specs.Writes.{pasted, pair-bytes}
+use Rattle.tables.specs.Writes.{pasted}
 use Rattle.tables.proofs.Cells.{cells-at}
 use Rattle.tables.proofs.Writes.{pair-some, pair-none, pasted-none}
 use Rattle.drawings.specs.Drawn.{drawn}

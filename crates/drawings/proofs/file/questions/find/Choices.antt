@@ -1,4 +1,3 @@
-use mathlib.Core.Path.{_≡_}
 use Prim.Native.Nat.{ℕ, _-_, _<_, _≤_}
 use Rattle.tables.specs.Files.{press-place, press-key}
 use Rattle.drawings.proofs.file.questions.find.Given as given

@@ -1,6 +1,6 @@
-use mathlib.Core.Path.{_≡_, sym, ap, _∙_}
+use mathlib.Core.Path.{_≡_}
 use Rattle.std.specs.Of.Vec.{vec-items}
-use Rattle.std.specs.declared.option.Option.the-variants.{None, Some}
+use Rattle.std.specs.declared.option.Option.the-variants.{None}
 use Rattle.tables.specs.Files.{Layout, fault-of}
 use Rattle.tables.proofs.Filed.{bad-file, good-file, layout-exist, layout-ordered, layout-room}
 use Rattle.drawings.proofs.stored.Stored.new.Needs as need
