@@ -16,7 +16,7 @@ const ROOM: usize = 64;
 const EVENTS: usize = 16;
 
 /// A dialogue that is drawn call by call: up to 64 states, always 16 events. A refused call alters nothing.
-#[derive(Drop)]
+#[derive(Clone, Copy)]
 pub struct Drawing {
     count: usize,
     starts: [bool; 64],

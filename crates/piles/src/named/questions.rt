@@ -68,6 +68,14 @@ impl NamedPile {
             Err(pile)
         }
     }
+
+    /// The pile itself.
+    pub fn into_pile(self) -> Pile
+        ensures { λ r. ⌜ r ≡ self .pile ⌝ }
+    {
+        let NamedPile { pile } = self;
+        pile
+    }
 }
 
 pub impl Dialogue for NamedPile as NamedPileDialogue {
