@@ -63,6 +63,17 @@ impl Page {
         Ok(())
     }
 
+    /// A digit for each of the first `count` marks; `-` for none.
+    pub fn marks(&mut self, marks: &[u8], count: usize) -> Result<(), AllocError> {
+        if count == 0 {
+            return self.text(b"-");
+        }
+        for mark in marks.iter().take(count) {
+            self.bytes.push(DIGITS[(*mark % 16) as usize])?;
+        }
+        Ok(())
+    }
+
     /// The line itself.
     pub fn echo(&mut self, line: &[u8]) -> Result<(), AllocError> {
         self.text(b"> ")?;
