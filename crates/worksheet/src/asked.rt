@@ -14,8 +14,11 @@ use piles::named::questions::NamedPileNamed;
 use piles::pile::Pile;
 use piles::questions::PileDialogue;
 use search::Frame;
+use search::FrameDefault;
 use search::Root;
+use search::RootDefault;
 use search::Slot;
+use search::SlotDefault;
 use std::alloc::AllocError;
 use std::alloc::Global;
 
