@@ -67,7 +67,12 @@ impl Kept {
 }
 
 /// Reads a dialogue in prefix form.
-pub fn read_dialogue(heap: Global, drawing: &Drawing, words: &mut Words, depth: usize) -> Result<Option<Pile>, AllocError> {
+pub fn read_dialogue(
+    heap: Global,
+    drawing: &Drawing,
+    words: &mut Words,
+    depth: usize,
+) -> Result<Option<Pile>, AllocError> {
     let Some(kind) = words.next() else {
         return Ok(None);
     };
@@ -132,7 +137,11 @@ fn bar(heap: Global, event: &[u8], below: Pile) -> Result<Option<Pile>, AllocErr
 }
 
 /// A whole line: a dialogue and nothing behind it.
-pub fn read_whole(heap: Global, drawing: &Drawing, rest: &[u8]) -> Result<Option<Kept>, AllocError> {
+pub fn read_whole(
+    heap: Global,
+    drawing: &Drawing,
+    rest: &[u8],
+) -> Result<Option<Kept>, AllocError> {
     let mut words = Words::new(rest);
     match read_dialogue(heap, drawing, &mut words, DEEPEST)? {
         None => Ok(None),
@@ -147,8 +156,17 @@ pub fn read_whole(heap: Global, drawing: &Drawing, rest: &[u8]) -> Result<Option
 }
 
 /// Whether a state is a start, its label, and where an event leads from it.
-fn show_questions<D: Dialogue>(dialogue: &D, state: usize, event: usize, page: &mut Page) -> Result<(), AllocError> {
-    page.text(if dialogue.is_start(state) { b"= 1 " } else { b"= 0 " })?;
+fn show_questions<D: Dialogue>(
+    dialogue: &D,
+    state: usize,
+    event: usize,
+    page: &mut Page,
+) -> Result<(), AllocError> {
+    page.text(if dialogue.is_start(state) {
+        b"= 1 "
+    } else {
+        b"= 0 "
+    })?;
     page.number(dialogue.label(state) as usize)?;
     page.text(b" ")?;
     match dialogue.next(state, event) {
@@ -193,16 +211,35 @@ pub struct Rooms {
 
 fn read_rooms(words: &mut Words, need: usize) -> Option<Rooms> {
     if words.at_end() {
-        return Some(Rooms { marks: need, slots: need, trail: need, roots: need });
+        return Some(Rooms {
+            marks: need,
+            slots: need,
+            trail: need,
+            roots: need,
+        });
     }
     let marks = crate::drawn::index(words)?;
     let slots = crate::drawn::index(words)?;
     let trail = crate::drawn::index(words)?;
     let roots = crate::drawn::index(words)?;
-    if words.at_end() { Some(Rooms { marks, slots, trail, roots }) } else { None }
+    if words.at_end() {
+        Some(Rooms {
+            marks,
+            slots,
+            trail,
+            roots,
+        })
+    } else {
+        None
+    }
 }
 
-fn loops_in<D: Dialogue>(heap: Global, dialogue: &D, rooms: Rooms, page: &mut Page) -> Result<(), AllocError> {
+fn loops_in<D: Dialogue>(
+    heap: Global,
+    dialogue: &D,
+    rooms: Rooms,
+    page: &mut Page,
+) -> Result<(), AllocError> {
     let Ok(mut marks) = vec![in heap; 0u8; rooms.marks] else {
         return page.unknown(b"there is not so much memory");
     };
@@ -215,7 +252,13 @@ fn loops_in<D: Dialogue>(heap: Global, dialogue: &D, rooms: Rooms, page: &mut Pa
     let Ok(mut roots) = vec![in heap; Root::default(); rooms.roots] else {
         return page.unknown(b"there is not so much memory");
     };
-    match loops(dialogue, marks.as_mut_slice(), slots.as_mut_slice(), trail.as_mut_slice(), roots.as_mut_slice()) {
+    match loops(
+        dialogue,
+        marks.as_mut_slice(),
+        slots.as_mut_slice(),
+        trail.as_mut_slice(),
+        roots.as_mut_slice(),
+    ) {
         Err(fault) => page.refusal(fault),
         Ok(count) => {
             page.text(b"= ")?;
@@ -228,7 +271,12 @@ fn loops_in<D: Dialogue>(heap: Global, dialogue: &D, rooms: Rooms, page: &mut Pa
 }
 
 /// Marks the states of the kept dialogue.
-pub fn mark_loops(heap: Global, kept: &Kept, rest: &[u8], page: &mut Page) -> Result<(), AllocError> {
+pub fn mark_loops(
+    heap: Global,
+    kept: &Kept,
+    rest: &[u8],
+    page: &mut Page,
+) -> Result<(), AllocError> {
     let (states, _) = kept.sizes();
     let Some(rooms) = read_rooms(&mut Words::new(rest), states) else {
         return page.unknown(b"loops, or loops ROOM ROOM ROOM ROOM");

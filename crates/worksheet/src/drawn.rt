@@ -54,15 +54,24 @@ pub fn add(drawing: &mut Drawing, words: &mut Words, page: &mut Page) -> Result<
     }
 }
 
-pub fn relabel(drawing: &mut Drawing, words: &mut Words, page: &mut Page) -> Result<(), AllocError> {
-    let (Some(state), Some(label), Some(mark)) = (index(words), next_label(words), index(words)) else {
+pub fn relabel(
+    drawing: &mut Drawing,
+    words: &mut Words,
+    page: &mut Page,
+) -> Result<(), AllocError> {
+    let (Some(state), Some(label), Some(mark)) = (index(words), next_label(words), index(words))
+    else {
         return page.unknown(b"relabel STATE LETTERS MARK");
     };
     told(drawing.relabel(state, label, mark), page)
 }
 
 pub fn join(drawing: &mut Drawing, words: &mut Words, page: &mut Page) -> Result<(), AllocError> {
-    let (Some(from), Some(event), Some(to)) = (index(words), next_event(drawing, words), index(words)) else {
+    let (Some(from), Some(event), Some(to)) = (
+        index(words),
+        next_event(drawing, words),
+        index(words),
+    ) else {
         return page.unknown(b"join FROM EVENT TO");
     };
     told(drawing.join(from, event, to), page)
@@ -75,7 +84,12 @@ pub fn cut(drawing: &mut Drawing, words: &mut Words, page: &mut Page) -> Result<
     told(drawing.cut(from, event), page)
 }
 
-pub fn take(heap: Global, drawing: &mut Drawing, rest: &[u8], page: &mut Page) -> Result<(), AllocError> {
+pub fn take(
+    heap: Global,
+    drawing: &mut Drawing,
+    rest: &[u8],
+    page: &mut Page,
+) -> Result<(), AllocError> {
     match hex_bytes(heap, rest)? {
         None => page.unknown(b"bytes in hexadecimal are wanted, - for none"),
         Some(bytes) => told(drawing.take(bytes.as_slice()), page),
@@ -83,7 +97,12 @@ pub fn take(heap: Global, drawing: &mut Drawing, rest: &[u8], page: &mut Page) -
 }
 
 /// Writes the drawing's file into a list of that length.
-pub fn write_file(heap: Global, drawing: &Drawing, room: usize, page: &mut Page) -> Result<(), AllocError> {
+pub fn write_file(
+    heap: Global,
+    drawing: &Drawing,
+    room: usize,
+    page: &mut Page,
+) -> Result<(), AllocError> {
     let Ok(mut out) = vec![in heap; 0u8; room] else {
         return page.unknown(b"there is not so much memory");
     };

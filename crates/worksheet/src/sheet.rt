@@ -29,7 +29,13 @@ pub struct Sheet {
 
 impl Sheet {
     pub fn new(heap: Global) -> Sheet {
-        Sheet { heap, rule: None, journey: None, drawing: Drawing::new(), dialogue: None }
+        Sheet {
+            heap,
+            rule: None,
+            journey: None,
+            drawing: Drawing::new(),
+            dialogue: None,
+        }
     }
 
     /// One line; an empty one, and one that begins with `#`, does nothing.
@@ -126,7 +132,9 @@ impl Sheet {
 
     fn keep_dialogue(&mut self, kept: Option<Kept>, page: &mut Page) -> Result<(), AllocError> {
         let Some(kept) = kept else {
-            return page.unknown(b"drawing, file BYTES, free K, pair EXPR EXPR or bar EVENT EXPR is wanted");
+            return page.unknown(
+                b"drawing, file BYTES, free K, pair EXPR EXPR or bar EVENT EXPR is wanted",
+            );
         };
         let (states, events) = kept.sizes();
         self.dialogue = Some(kept);
@@ -248,9 +256,15 @@ fn room(rest: &[u8], need: usize) -> Option<usize> {
 fn help(page: &mut Page) -> Result<(), AllocError> {
     page.detail(b"rule TEXT                   reads a rule and keeps it")?;
     page.detail(b"rule-hex BYTES              the same, from bytes in hexadecimal")?;
-    page.detail(b"write [ROOM]                writes the kept rule out, into a list of that length")?;
-    page.detail(b"journey LEAD LETTERS ..     keeps a journey: its lead-in, and a label for each word")?;
-    page.detail(b"journey-hex LEAD BYTES      the same, two bytes for each label, the least first")?;
+    page.detail(
+        b"write [ROOM]                writes the kept rule out, into a list of that length",
+    )?;
+    page.detail(
+        b"journey LEAD LETTERS ..     keeps a journey: its lead-in, and a label for each word",
+    )?;
+    page.detail(
+        b"journey-hex LEAD BYTES      the same, two bytes for each label, the least first",
+    )?;
     page.detail(b"judge [ROOM]                judges the kept journey by the kept rule")?;
     page.detail(b"new, wipe                   the drawing anew, or without states")?;
     page.detail(b"add LETTERS MARK            a state more, and whether it is a start: 0 or 1")?;
@@ -258,8 +272,12 @@ fn help(page: &mut Page) -> Result<(), AllocError> {
     page.detail(b"join FROM EVENT TO          a next state; cut FROM EVENT takes it away")?;
     page.detail(b"take BYTES                  the drawing from a file; file [ROOM] writes it")?;
     page.detail(b"fault BYTES                 what is wrong with a file")?;
-    page.detail(b"dialogue EXPR               keeps a dialogue: drawing, file BYTES, free K, pair EXPR EXPR, bar EVENT EXPR")?;
+    page.detail(
+        b"dialogue EXPR               keeps a dialogue: drawing, file BYTES, free K, pair EXPR EXPR, bar EVENT EXPR",
+    )?;
     page.detail(b"ask STATE EVENT             start, label, next state and name")?;
-    page.detail(b"loops [ROOM ROOM ROOM ROOM] marks its states: 0 not reached, 1 reached, 2 able to return to itself")?;
+    page.detail(
+        b"loops [ROOM ROOM ROOM ROOM] marks its states: 0 not reached, 1 reached, 2 able to return to itself",
+    )?;
     page.done()
 }

@@ -1,4 +1,4 @@
 use Rattle.worksheet.proofs.asked.+read_dialogue.Given as given
 
-abbrev pub μ-read_dialogue : given.MeasureT-read_dialogue
-μ-read_dialogue l = l .depth
+abbrev pub μ-read-dialogue : given.MeasureT-read-dialogue
+μ-read-dialogue l = l .depth
