@@ -33,7 +33,7 @@ pub enum Kept {
 }
 
 impl Kept {
-    pub fn new(pile: Pile) -> Kept {
+    pub(crate) fn new(pile: Pile) -> Kept {
         match NamedPile::new(pile) {
             Ok(named) => Kept::Named(named),
             Err(pile) => Kept::Plain(pile),
@@ -58,7 +58,7 @@ impl Kept {
     }
 
     /// The answer of `dialogue`: how many states and events there are.
-    pub fn sizes(&self) -> (usize, usize) {
+    pub(crate) fn sizes(&self) -> (usize, usize) {
         match self {
             Kept::Plain(pile) => (pile.states() as usize, pile.events() as usize),
             Kept::Named(named) => (named.states() as usize, named.events() as usize),
@@ -67,7 +67,7 @@ impl Kept {
 }
 
 /// Reads a dialogue in prefix form.
-pub fn read_dialogue(
+pub(crate) fn read_dialogue(
     heap: Global,
     drawing: &Drawing,
     words: &mut Words,
@@ -137,7 +137,7 @@ fn bar(heap: Global, event: &[u8], below: Pile) -> Result<Option<Pile>, AllocErr
 }
 
 /// A whole line: a dialogue and nothing behind it.
-pub fn read_whole(
+pub(crate) fn read_whole(
     heap: Global,
     drawing: &Drawing,
     rest: &[u8],
@@ -177,8 +177,9 @@ fn show_questions<D: Dialogue>(
 }
 
 /// The questions about a state and an event.
-pub fn ask(kept: &Kept, words: &mut Words, page: &mut Page) -> Result<(), AllocError> {
-    let (Some(state), Some(word)) = (crate::drawn::index(words), words.next()) else {
+pub(crate) fn ask(kept: &Kept, words: &mut Words, page: &mut Page) -> Result<(), AllocError> {
+    let (Some(state), Some(word), true) = (crate::drawn::index(words), words.next(), words.at_end())
+    else {
         return page.unknown(b"ask STATE EVENT");
     };
     let Some(event) = kept.event(word) else {
@@ -271,7 +272,7 @@ fn loops_in<D: Dialogue>(
 }
 
 /// Marks the states of the kept dialogue.
-pub fn mark_loops(
+pub(crate) fn mark_loops(
     heap: Global,
     kept: &Kept,
     rest: &[u8],

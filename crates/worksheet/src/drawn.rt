@@ -12,13 +12,13 @@ use std::alloc::AllocError;
 use std::alloc::Global;
 
 /// A number, as a machine word.
-pub fn index(words: &mut Words) -> Option<usize> {
+pub(crate) fn index(words: &mut Words) -> Option<usize> {
     let n = number(words.next()?)?;
     Some(n as usize)
 }
 
 /// The event of a dialogue that a word names: by its number, or by its name.
-pub fn event_of<D: Named>(dialogue: &D, word: &[u8]) -> Option<usize> {
+pub(crate) fn event_of<D: Named>(dialogue: &D, word: &[u8]) -> Option<usize> {
     if let Some(n) = number(word) {
         return Some(n as usize);
     }
@@ -33,15 +33,19 @@ pub fn event_of<D: Named>(dialogue: &D, word: &[u8]) -> Option<usize> {
 }
 
 /// The answer of a call that tells nothing.
-pub fn told(result: Result<(), Fault>, page: &mut Page) -> Result<(), AllocError> {
+pub(crate) fn told(result: Result<(), Fault>, page: &mut Page) -> Result<(), AllocError> {
     match result {
         Ok(()) => page.done(),
         Err(fault) => page.refusal(fault),
     }
 }
 
-pub fn add(drawing: &mut Drawing, words: &mut Words, page: &mut Page) -> Result<(), AllocError> {
-    let (Some(label), Some(mark)) = (next_label(words), index(words)) else {
+pub(crate) fn add(
+    drawing: &mut Drawing,
+    words: &mut Words,
+    page: &mut Page,
+) -> Result<(), AllocError> {
+    let (Some(label), Some(mark), true) = (next_label(words), index(words), words.at_end()) else {
         return page.unknown(b"add LETTERS MARK");
     };
     match drawing.add(label, mark) {
@@ -54,37 +58,51 @@ pub fn add(drawing: &mut Drawing, words: &mut Words, page: &mut Page) -> Result<
     }
 }
 
-pub fn relabel(
+pub(crate) fn relabel(
     drawing: &mut Drawing,
     words: &mut Words,
     page: &mut Page,
 ) -> Result<(), AllocError> {
-    let (Some(state), Some(label), Some(mark)) = (index(words), next_label(words), index(words))
-    else {
+    let (Some(state), Some(label), Some(mark), true) = (
+        index(words),
+        next_label(words),
+        index(words),
+        words.at_end(),
+    ) else {
         return page.unknown(b"relabel STATE LETTERS MARK");
     };
     told(drawing.relabel(state, label, mark), page)
 }
 
-pub fn join(drawing: &mut Drawing, words: &mut Words, page: &mut Page) -> Result<(), AllocError> {
-    let (Some(from), Some(event), Some(to)) = (
+pub(crate) fn join(
+    drawing: &mut Drawing,
+    words: &mut Words,
+    page: &mut Page,
+) -> Result<(), AllocError> {
+    let (Some(from), Some(event), Some(to), true) = (
         index(words),
         next_event(drawing, words),
         index(words),
+        words.at_end(),
     ) else {
         return page.unknown(b"join FROM EVENT TO");
     };
     told(drawing.join(from, event, to), page)
 }
 
-pub fn cut(drawing: &mut Drawing, words: &mut Words, page: &mut Page) -> Result<(), AllocError> {
-    let (Some(from), Some(event)) = (index(words), next_event(drawing, words)) else {
+pub(crate) fn cut(
+    drawing: &mut Drawing,
+    words: &mut Words,
+    page: &mut Page,
+) -> Result<(), AllocError> {
+    let (Some(from), Some(event), true) = (index(words), next_event(drawing, words), words.at_end())
+    else {
         return page.unknown(b"cut FROM EVENT");
     };
     told(drawing.cut(from, event), page)
 }
 
-pub fn take(
+pub(crate) fn take(
     heap: Global,
     drawing: &mut Drawing,
     rest: &[u8],
@@ -97,7 +115,7 @@ pub fn take(
 }
 
 /// Writes the drawing's file into a list of that length.
-pub fn write_file(
+pub(crate) fn write_file(
     heap: Global,
     drawing: &Drawing,
     room: usize,
@@ -119,7 +137,7 @@ pub fn write_file(
 }
 
 /// How long the drawing's file is: found by writing it into a list that is long enough for every drawing.
-pub fn file_length(heap: Global, drawing: &Drawing) -> Result<usize, AllocError> {
+pub(crate) fn file_length(heap: Global, drawing: &Drawing) -> Result<usize, AllocError> {
     let mut out = vec![in heap; 0u8; 8192]?;
     match drawing.write(out.as_mut_slice()) {
         Ok(count) => Ok(count),

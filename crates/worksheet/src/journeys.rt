@@ -20,13 +20,13 @@ pub struct Journey {
 }
 
 impl Journey {
-    pub fn judged_by(&self, rule: &Rule, work: &mut [u8]) -> Result<bool, Fault> {
+    pub(crate) fn judged_by(&self, rule: &Rule, work: &mut [u8]) -> Result<bool, Fault> {
         judge(rule, &self.labels.as_slice(), self.lead_in, work)
     }
 }
 
 /// A lead-in, and a label for each further word. None where a word is no such thing.
-pub fn read_journey(heap: Global, rest: &[u8]) -> Result<Option<Journey>, AllocError> {
+pub(crate) fn read_journey(heap: Global, rest: &[u8]) -> Result<Option<Journey>, AllocError> {
     let mut words = Words::new(rest);
     let Some(lead_in) = lead_in(&mut words) else {
         return Ok(None);
@@ -45,7 +45,7 @@ pub fn read_journey(heap: Global, rest: &[u8]) -> Result<Option<Journey>, AllocE
 }
 
 /// A lead-in, and labels of two bytes each, the least first.
-pub fn read_journey_hex(heap: Global, rest: &[u8]) -> Result<Option<Journey>, AllocError> {
+pub(crate) fn read_journey_hex(heap: Global, rest: &[u8]) -> Result<Option<Journey>, AllocError> {
     let mut words = Words::new(rest);
     let Some(lead_in) = lead_in(&mut words) else {
         return Ok(None);

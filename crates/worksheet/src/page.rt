@@ -31,28 +31,28 @@ const DIGITS: [u8; 16] = [
 ];
 
 impl Page {
-    pub fn new(heap: Global) -> Page {
+    pub(crate) fn new(heap: Global) -> Page {
         Page {
             heap,
             bytes: Vec::new(heap),
         }
     }
 
-    pub fn bytes(&self) -> &[u8] {
+    pub(crate) fn bytes(&self) -> &[u8] {
         self.bytes.as_slice()
     }
 
-    pub fn text(&mut self, text: &[u8]) -> Result<(), AllocError> {
+    pub(crate) fn text(&mut self, text: &[u8]) -> Result<(), AllocError> {
         self.bytes.extend_from_slice(text)
     }
 
-    pub fn number(&mut self, n: usize) -> Result<(), AllocError> {
+    pub(crate) fn number(&mut self, n: usize) -> Result<(), AllocError> {
         let digits = format!(self.heap, "{n}")?;
         self.text(digits.as_bytes())
     }
 
     /// Two hexadecimal digits for each byte; `-` for none.
-    pub fn hex(&mut self, bytes: &[u8]) -> Result<(), AllocError> {
+    pub(crate) fn hex(&mut self, bytes: &[u8]) -> Result<(), AllocError> {
         if bytes.is_empty() {
             return self.text(b"-");
         }
@@ -64,7 +64,7 @@ impl Page {
     }
 
     /// A digit for each of the first `count` marks; `-` for none.
-    pub fn marks(&mut self, marks: &[u8], count: usize) -> Result<(), AllocError> {
+    pub(crate) fn marks(&mut self, marks: &[u8], count: usize) -> Result<(), AllocError> {
         if count == 0 {
             return self.text(b"-");
         }
@@ -75,33 +75,33 @@ impl Page {
     }
 
     /// The line itself.
-    pub fn echo(&mut self, line: &[u8]) -> Result<(), AllocError> {
+    pub(crate) fn echo(&mut self, line: &[u8]) -> Result<(), AllocError> {
         self.text(b"> ")?;
         self.text(line)?;
         self.text(b"\n")
     }
 
     /// A line of detail.
-    pub fn detail(&mut self, text: &[u8]) -> Result<(), AllocError> {
+    pub(crate) fn detail(&mut self, text: &[u8]) -> Result<(), AllocError> {
         self.text(b"  ")?;
         self.text(text)?;
         self.text(b"\n")
     }
 
     /// The answer `= done`.
-    pub fn done(&mut self) -> Result<(), AllocError> {
+    pub(crate) fn done(&mut self) -> Result<(), AllocError> {
         self.text(b"= done\n")
     }
 
     /// A refusal, with its cause in words.
-    pub fn refusal(&mut self, fault: Fault) -> Result<(), AllocError> {
+    pub(crate) fn refusal(&mut self, fault: Fault) -> Result<(), AllocError> {
         self.detail(cause_words(fault.cause))?;
         let shown = format!(self.heap, "! {fault}\n")?;
         self.text(shown.as_bytes())
     }
 
     /// A line that is not understood.
-    pub fn unknown(&mut self, why: &[u8]) -> Result<(), AllocError> {
+    pub(crate) fn unknown(&mut self, why: &[u8]) -> Result<(), AllocError> {
         self.text(b"? ")?;
         self.text(why)?;
         self.text(b"\n")

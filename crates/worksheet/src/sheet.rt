@@ -28,7 +28,7 @@ pub struct Sheet {
 }
 
 impl Sheet {
-    pub fn new(heap: Global) -> Sheet {
+    pub(crate) fn new(heap: Global) -> Sheet {
         Sheet {
             heap,
             rule: None,
@@ -39,7 +39,7 @@ impl Sheet {
     }
 
     /// One line; an empty one, and one that begins with `#`, does nothing.
-    pub fn perform(&mut self, line: &[u8], page: &mut Page) -> Result<(), AllocError> {
+    pub(crate) fn perform(&mut self, line: &[u8], page: &mut Page) -> Result<(), AllocError> {
         if line.is_empty() || line[0] == b'#' {
             return Ok(());
         }
@@ -58,7 +58,7 @@ impl Sheet {
             self.keep_journey(journey, page)
         } else if command == b"judge" {
             self.judge_journey(rest, page)
-        } else if command == b"help" {
+        } else if line == b"help" {
             help(page)
         } else {
             self.draw(command, rest, page)
@@ -68,10 +68,10 @@ impl Sheet {
     /// The lines on the drawing.
     fn draw(&mut self, command: &[u8], rest: &[u8], page: &mut Page) -> Result<(), AllocError> {
         let mut words = Words::new(rest);
-        if command == b"new" {
+        if command == b"new" && words.at_end() {
             self.drawing = Drawing::new();
             page.done()
-        } else if command == b"wipe" {
+        } else if command == b"wipe" && words.at_end() {
             self.drawing.wipe();
             page.done()
         } else if command == b"add" {

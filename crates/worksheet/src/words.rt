@@ -18,7 +18,7 @@ fn line_end(text: &[u8]) -> usize
 }
 
 /// The first line, without its newline, and what follows it.
-pub fn split_line(text: &[u8]) -> (&[u8], &[u8])
+pub(crate) fn split_line(text: &[u8]) -> (&[u8], &[u8])
     ensures { λ r. ⌜ (0 < length (now (text .entry)) → length (now (r .1)) < length (now (text .entry))) ⌝ }
 {
     let end = line_end(text);
@@ -39,7 +39,7 @@ fn word_end(text: &[u8]) -> usize
 }
 
 /// The first word, and what follows the blank behind it.
-pub fn split_word(text: &[u8]) -> (&[u8], &[u8]) {
+pub(crate) fn split_word(text: &[u8]) -> (&[u8], &[u8]) {
     let end = word_end(text);
     let next = (end + 1).min(text.len());
     (&text[0..end], &text[next..])
@@ -52,11 +52,11 @@ pub struct Words<'a> {
 }
 
 impl<'a> Words<'a> {
-    pub fn new(rest: &'a [u8]) -> Self {
+    pub(crate) fn new(rest: &'a [u8]) -> Self {
         Words { rest }
     }
 
-    pub fn next(&mut self) -> Option<&'a [u8]> {
+    pub(crate) fn next(&mut self) -> Option<&'a [u8]> {
         let start = blanks(self.rest);
         let text = &self.rest[start..];
         if text.is_empty() {
@@ -68,7 +68,7 @@ impl<'a> Words<'a> {
     }
 
     /// No word is left.
-    pub fn at_end(&self) -> bool {
+    pub(crate) fn at_end(&self) -> bool {
         blanks(self.rest) == self.rest.len()
     }
 }
@@ -86,7 +86,7 @@ fn blanks(text: &[u8]) -> usize
 }
 
 /// A decimal number, up to the largest of 64 bits.
-pub fn number(word: &[u8]) -> Option<u64> {
+pub(crate) fn number(word: &[u8]) -> Option<u64> {
     if word.is_empty() {
         return None;
     }
@@ -113,7 +113,7 @@ fn hex_digit(b: u8) -> Option<u8>
 }
 
 /// Bytes in hexadecimal, two digits each, `-` for none. None where the word is no such thing.
-pub fn hex_bytes(heap: Global, word: &[u8]) -> Result<Option<Vec<u8>>, AllocError> {
+pub(crate) fn hex_bytes(heap: Global, word: &[u8]) -> Result<Option<Vec<u8>>, AllocError> {
     let mut bytes = Vec::new(heap);
     if word == b"-" {
         return Ok(Some(bytes));
@@ -131,7 +131,7 @@ pub fn hex_bytes(heap: Global, word: &[u8]) -> Result<Option<Vec<u8>>, AllocErro
 }
 
 /// A label: letters a to p, `-` for none, or a decimal number below 65,536.
-pub fn label(word: &[u8]) -> Option<u16> {
+pub(crate) fn label(word: &[u8]) -> Option<u16> {
     if word == b"-" {
         return Some(0);
     }
