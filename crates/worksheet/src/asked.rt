@@ -23,7 +23,7 @@ use std::alloc::AllocError;
 use std::alloc::Global;
 
 /// The deepest nesting of a dialogue that is read.
-const DEEPEST: usize = 4000;
+const DEEPEST: usize = 1000;
 
 /// A dialogue, with names where all of its parts have them.
 #[derive(Drop)]
