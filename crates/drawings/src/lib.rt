@@ -1,4 +1,6 @@
 //! Dialogues that are kept: drawings, which are changed call by call, and files, which are read where they lie.
+#![tactic(auto)]
+
 pub mod call;
 pub mod checks;
 pub mod drawing;

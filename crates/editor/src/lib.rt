@@ -1,5 +1,7 @@
 //! What an editor written in C calls: rule texts read, and journeys judged, with one number as the answer. The header
 //! is `include/presscheck.h`. Nothing here allocates, and the search is not part of it.
+#![tactic(auto)]
+
 ghost use Rattle.std.specs.Prelude.{◌≡◌, ◌<◌, false, length, is_ok};
 ghost use Rattle.editor.specs.Numbers.{ReadNumber, JudgedText, JudgeNumber};
 

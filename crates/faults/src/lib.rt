@@ -1,5 +1,7 @@
 //! Refusals. Every call of the library that cannot do what it is asked answers with one `Fault`, which
 //! says why (`cause`), where in the input or in which argument (`place`), and which layer found it.
+#![tactic(auto)]
+
 ghost use Rattle.std.specs.Prelude.{◌≡◌, ◌+◌, ◌*◌, min, Some};
 ghost use Rattle.faults.specs.Numbers.{cause_number, layer_number, fault_text};
 ghost use Rattle.faults.specs.Writing.{put_answer, put_list};

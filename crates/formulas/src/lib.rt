@@ -1,5 +1,6 @@
 //! Rules as formulas of linear temporal logic: their operators, their signs in a text, and the table of parts
 //! that a rule is kept in. What a text means, and the proofs, are in `specs/` and `proofs/`.
+#![tactic(auto)]
 
 /// An operator that stands before its operand.
 #[derive(Clone, Copy, PartialEq, Eq, Debug)]

@@ -1,4 +1,6 @@
 //! The judge: whether a rule is true of one endless journey, given as a list of labels and a lead-in.
+#![tactic(auto)]
+
 ghost use Rattle.std.specs.Prelude.{◌≡◌, false, length, is_ok, IfOk, Decides};
 ghost use Rattle.lassos.specs.Word.{Holds, spelled};
 ghost use Rattle.rules.specs.Rules.{formula};

@@ -1,4 +1,6 @@
 //! Rule texts: read into rules, or refused with cause and place, and written out again.
+#![tactic(auto)]
+
 pub mod laws;
 mod reader;
 mod reading;

@@ -1,4 +1,6 @@
 //! search_bench: times the component search on random graphs.
+#![tactic(auto)]
+
 mod listed;
 mod work;
 
