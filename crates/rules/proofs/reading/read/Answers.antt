@@ -8,13 +8,13 @@ use Rattle.rules.proofs.reading.read.Goals as goal
 pub returns-then-text-gt-LONGEST : goal.returns-then-text-gt-LONGEST
 returns-then-text-gt-LONGEST c = let e = c.refusal.ensures in rw e (too_long c.if-text-gt-LONGEST.true)
 
-pub returns-in-err-step : goal.returns-in-err-step
-returns-in-err-step c =
-    let p = err_from_is_err_and c.from-residual.result c.from-residual.ensures.1 in
-    rw (p.1, p.2) (stopped_refused c.args.text.now c.loop-place.place c.loop-place.reader c.in-err-step.field-0.0 c.if-text-gt-LONGEST.false c.loop-place-test.true c.loop-place.invariant c.in-err-step.ensures)
+pub returns-in_err-step : goal.returns-in_err-step
+returns-in_err-step c =
+    let p = err_from_is_err_and c.from_residual.result c.from_residual.ensures.1 in
+    rw (p.1, p.2) (stopped_refused c.args.text.now c.loop-place.place c.loop-place.reader c.in_err-step.field-0.0 c.if-text-gt-LONGEST.false c.loop-place-test.true c.loop-place.invariant c.in_err-step.ensures)
 
 pub loop-place-preserved : goal.loop-place-preserved
-loop-place-preserved c = progress_more c.args.text.now c.loop-place.place c.loop-place.reader c.step.new.self c.loop-place-test.true c.loop-place.invariant c.in-ok-step.ensures
+loop-place-preserved c = progress_more c.args.text.now c.loop-place.place c.loop-place.reader c.step.new.self c.loop-place-test.true c.loop-place.invariant c.in_ok-step.ensures
 
 pub returns : goal.returns
 returns c =

@@ -3,5 +3,5 @@ use Rattle.rules.proofs.reader.Reader.join.Goals as goal
 
 pub returns : goal.returns
 returns c =
-    join_returns c.args.self.now c.args.op c.args.place c.locate.new.self c.reduce.new.self c.push-frame.new.self c.is-temporal-infix.result c.infix-level.result c.in-ok-location.location
-    c.is-temporal-infix.ensures c.infix-level.ensures c.in-ok-location.ensures c.requires.more c.requires.numbered c.reduce.ensures c.push-frame.ensures
+    join_returns c.args.self.now c.args.op c.args.place c.locate.new.self c.reduce.new.self c.push_frame.new.self c.is_temporal_infix.result c.infix_level.result c.in_ok-location.location
+    c.is_temporal_infix.ensures c.infix_level.ensures c.in_ok-location.ensures c.requires.more c.requires.numbered c.reduce.ensures c.push_frame.ensures

@@ -7,7 +7,7 @@ pub loop-self-preserved : goal.loop-self-preserved
 loop-self-preserved c =
     let q = c.loop-self.self in
     let k : c.args.floor < binds (top_frame q) = omega (arith, c.binding.ensures, c.if-binding-floor.true) in
-    let e = c.apply-top.ensures in
+    let e = c.apply_top.ensures in
     rw e (reducing_step c.args.floor c.args.self.now c.args.place q c.requires.short c.loop-self.invariant c.loop-self-test.true k)
 
 pub returns-else-binding-floor : goal.returns-else-binding-floor

@@ -5,10 +5,10 @@ use Rattle.std.proofs.lemmas.Result.{err_from_is_err_and}
 use Rattle.rules.proofs.Steps.{stops, open_returns, prefix_returns, prefix_stops, constant_returns, letter_returns}
 use Rattle.rules.proofs.reader.Reader.want.Goals as goal
 
-pub returns-in-err-location : goal.returns-in-err-location
-returns-in-err-location c =
-    let p = err_from_is_err_and c.from-residual.result c.from-residual.ensures.1 in
-    rw (p.1, p.2) (prefix_stops c.args.self.now c.args.sign c.args.place c.in-Before.op c.is-temporal-prefix.result c.in-err-location.field-0.0 c.in-Before.is c.is-temporal-prefix.ensures c.in-err-location.ensures c.requires.mode)
+pub returns-in_err-location-in-Before : goal.returns-in_err-location-in-Before
+returns-in_err-location-in-Before c =
+    let p = err_from_is_err_and c.from_residual.result c.from_residual.ensures.1 in
+    rw (p.1, p.2) (prefix_stops c.args.self.now c.args.sign c.args.place c.in-Before.op c.is_temporal_prefix.result c.in_err-location-in-Before.field-0.0 c.in-Before.is c.is_temporal_prefix.ensures c.in_err-location-in-Before.ensures c.requires.mode)
 
 pub returns-in-Close : goal.returns-in-Close
 returns-in-Close c =
@@ -19,15 +19,15 @@ returns-in-Close c =
     stops r c.args.sign c.args.place c.refusal.result st (ap (state (parts_of r) (frames_of r)) c.requires.mode) c.refusal.ensures p
 
 pub returns-in-Open : goal.returns-in-Open
-returns-in-Open c = open_returns c.args.self.now c.args.sign c.args.place c.push-frame.new.self c.in-Open.is c.requires.sane c.requires.more c.requires.mode c.push-frame.ensures
+returns-in-Open c = open_returns c.args.self.now c.args.sign c.args.place c.push_frame.new.self c.in-Open.is c.requires.sane c.requires.more c.requires.mode c.push_frame.ensures
 
-pub returns-in-ok-location : goal.returns-in-ok-location
-returns-in-ok-location c =
-    prefix_returns c.args.self.now c.args.sign c.args.place c.in-Before.op c.locate.new.self c.push-frame-in-Before.new.self c.is-temporal-prefix.result c.in-ok-location.location
-    c.in-Before.is c.is-temporal-prefix.ensures c.in-ok-location.ensures c.requires.sane c.requires.more c.requires.mode c.push-frame-in-Before.ensures
+pub returns-in_ok-location-in-Before : goal.returns-in_ok-location-in-Before
+returns-in_ok-location-in-Before c =
+    prefix_returns c.args.self.now c.args.sign c.args.place c.in-Before.op c.locate.new.self c.push_frame-in-Before.new.self c.is_temporal_prefix.result c.in_ok-location-in-Before.location
+    c.in-Before.is c.is_temporal_prefix.ensures c.in_ok-location-in-Before.ensures c.requires.sane c.requires.more c.requires.mode c.push_frame-in-Before.ensures
 
 pub returns-in-Constant : goal.returns-in-Constant
-returns-in-Constant c = constant_returns c.args.self.now c.args.sign c.args.place c.in-Constant.value c.push-operand.new.self c.in-Constant.is c.requires.sane c.requires.more c.requires.mode c.push-operand.ensures
+returns-in-Constant c = constant_returns c.args.self.now c.args.sign c.args.place c.in-Constant.value c.push_operand.new.self c.in-Constant.is c.requires.sane c.requires.more c.requires.mode c.push_operand.ensures
 
 pub returns-in-Letter : goal.returns-in-Letter
-returns-in-Letter c = letter_returns c.args.self.now c.args.sign c.args.place c.in-Letter.letter c.push-operand-in-Letter.new.self c.in-Letter.is c.requires.known c.requires.sane c.requires.more c.requires.mode c.push-operand-in-Letter.ensures
+returns-in-Letter c = letter_returns c.args.self.now c.args.sign c.args.place c.in-Letter.letter c.push_operand-in-Letter.new.self c.in-Letter.is c.requires.known c.requires.sane c.requires.more c.requires.mode c.push_operand-in-Letter.ensures
