@@ -9,8 +9,8 @@ pub returns : goal.returns
 returns c =
     let text = c.args.text.now in
     let fits : fits_name text ≡ true = grind (arith, nat_tests) in
-    let copied : c.copy-from-slice.new.self ≡ text = c.copy-from-slice.ensures.after in
+    let copied : c.copy_from_slice.new.self ≡ text = c.copy_from_slice.ensures.after in
     record {
       exists = sym fits;
-      spells = take_at c.copy-from-slice.new.self _ (length text) (ap length copied) ∙ (copied ∙ sym (cond-true _ text _ fits));
+      spells = take_at c.copy_from_slice.new.self _ (length text) (ap length copied) ∙ (copied ∙ sym (cond-true _ text _ fits));
     }
