@@ -8,8 +8,8 @@ use Rattle.drawings.proofs.drawing.Drawing.put_presses.Goals as goal
 pub loop-i-init : goal.loop-i-init
 loop-i-init c = (front_none _ c.args.out.now (omega (arith, c.requires)), omega arith)
 
-pub put-press-at-requires : goal.put-press-at-requires
-put-press-at-requires c =
+pub put_press-at-requires : goal.put_press-at-requires
+put_press-at-requires c =
     let t = drawn c.args.self.now in
     let i = c.loop-i.i in
     record {
@@ -21,8 +21,8 @@ pub loop-i-preserved : goal.loop-i-preserved
 loop-i-preserved c =
     let t = drawn c.args.self.now in
     let i = c.loop-i.i in (
-      press_step t c.args.out.now c.loop-i.out c.put-press-at.new.out _ c.loop-i.at i (omega (arith, c.requires)) c.loop-i.invariant.0 c.loop-i.invariant.1 c.put-press-at.ensures.leaves,
-      omega (arith, c.put-press-at.ensures.end, c.loop-i.invariant.1, length_pair t i, length_presses_more t i),
+      press_step t c.args.out.now c.loop-i.out c.put_press-at.new.out _ c.loop-i.at i (omega (arith, c.requires)) c.loop-i.invariant.0 c.loop-i.invariant.1 c.put_press-at.ensures.leaves,
+      omega (arith, c.put_press-at.ensures.end, c.loop-i.invariant.1, length_pair t i, length_presses_more t i),
     )
 
 pub returns : goal.returns

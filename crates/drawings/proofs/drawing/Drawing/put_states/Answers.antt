@@ -5,4 +5,4 @@ use Rattle.drawings.proofs.drawing.Drawing.put_states.Goals as goal
 
 pub loop-state-preserved : goal.loop-state-preserved
 loop-state-preserved c =
-    state_step (drawn c.args.self.now) c.args.out.now c.loop-state.out c.put-state.new.out c.loop-state.state (omega (arith, c.requires)) c.loop-state.invariant c.put-state.ensures
+    state_step (drawn c.args.self.now) c.args.out.now c.loop-state.out c.put_state.new.out c.loop-state.state (omega (arith, c.requires)) c.loop-state.invariant c.put_state.ensures

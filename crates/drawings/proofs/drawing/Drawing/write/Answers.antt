@@ -12,18 +12,18 @@ back d = reads_back (drawn d) (cells_formed d.count d.starts d.labels d.next d.f
 pub returns-then-out-size : goal.returns-then-out-size
 returns-then-out-size c =
     let d = c.args.self.now in
-    let short = write_short (drawn d) c.args.out.now _ (file_size (drawn d) _ (omega (arith, c.count-presses.ensures.all))) c.if-out-size.true in
+    let short = write_short (drawn d) c.args.out.now _ (file_size (drawn d) _ (omega (arith, c.count_presses.ensures.all))) c.if-out-size.true in
     record { answer = ap Err c.refusal.ensures ∙ short.0; leaves = short.1; back = back d }
 
 pub returns : goal.returns
 returns c =
     let d = c.args.self.now in
-    let fits = write_fits (drawn d) c.args.out.now _ (file_size (drawn d) _ (omega (arith, c.count-presses.ensures.all))) c.if-out-size.false in
+    let fits = write_fits (drawn d) c.args.out.now _ (file_size (drawn d) _ (omega (arith, c.count_presses.ensures.all))) c.if-out-size.false in
     record {
       answer = fits.0;
       leaves =
-          writes_all (drawn d) c.args.out.now c.put.new.out c.put-states.new.out c.put-presses-end.new.out c.put-2.new.out d.count c.put-presses-end.result refl d.few
-          c.put-presses-end.ensures.end c.put.ensures c.put-states.ensures c.put-presses-end.ensures.leaves c.put-2.ensures
+          writes_all (drawn d) c.args.out.now c.put.new.out c.put_states.new.out c.put_presses-end.new.out c.put-2.new.out d.count c.put_presses-end.result refl d.few
+          c.put_presses-end.ensures.end c.put.ensures c.put_states.ensures c.put_presses-end.ensures.leaves c.put-2.ensures
           ∙ fits.1;
       back = back d;
     }

@@ -1,7 +1,7 @@
 use Rattle.tables.proofs.Filed.{layout_exist, layout_ordered, layout_room}
 use Rattle.drawings.proofs.file.File.open.Goals as goal
 
-pub invariant-of-result : goal.invariant-of-result
-invariant-of-result c =
+pub invariant_of-result : goal.invariant_of-result
+invariant_of-result c =
     let y = c.requires in
-    (y.few_states, (y.few_events, (layout_room _ _ _ _ y, (layout_exist _ _ _ _ y, (layout_ordered _ _ _ _ y, tt)))))
+    record { few = y.few_states; most = y.few_events; room = layout_room _ _ _ _ y; exist = layout_exist _ _ _ _ y; ordered = layout_ordered _ _ _ _ y }
