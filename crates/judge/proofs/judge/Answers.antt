@@ -11,7 +11,7 @@ use Rattle.judge.proofs.judge.Goals as goal
 
 pub evaluate-requires : goal.evaluate-requires
 evaluate-requires g c =
-    let p : Passed c.count-count.result c.args.lead_in (length c.args.work.now) = passed _ _ _ _ _ c.in-ok-admit.ensures in
+    let p : Passed c.count-count.result c.args.lead_in (length c.args.work.now) = passed _ _ _ _ _ c.in_ok-admit.ensures in
     let room : 128 * c.count-count.result ≤ length c.args.work.now = leb-true _ _ p.room in
     let few = mul-le (length c.parts.result.now) c.count-count.result 128 c.count-count.result c.parts.ensures.few (omega arith) in
     record {
@@ -23,7 +23,7 @@ evaluate-requires g c =
 
 pub returns : goal.returns
 returns g c =
-    let p : Passed c.count-count.result c.args.lead_in (length c.args.work.now) = passed _ _ _ _ _ c.in-ok-admit.ensures in
+    let p : Passed c.count-count.result c.args.lead_in (length c.args.work.now) = passed _ _ _ _ _ c.in_ok-admit.ensures in
     let value = c.evaluate.ensures ∙ ap (λ (ps : List Part). truth (whole_formula ps) (g.L.Labels.list c.args.labels.now) c.args.lead_in 0) c.parts.ensures.value in
     record {
       answer = judged_is (formula c.args.rule.now) _ _ _ _ _ c.count-count.ensures p value;

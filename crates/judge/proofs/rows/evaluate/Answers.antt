@@ -7,13 +7,13 @@ use Rattle.judge.proofs.rows.evaluate.Goals as goal
 pub loop-index-init : goal.loop-index-init
 loop-index-init g c = rows_none _ _ _ _
 
-pub part-row-requires : goal.part-row-requires
-part-row-requires g c =
+pub part_row-requires : goal.part_row-requires
+part_row-requires g c =
     let below = row_below c.loop-index.index _ c.args.shape.count c.loop-index-test.true in
     record { operands = sound_at _ _ _ c.requires.operands c.loop-index-test.true; all = c.requires.all; room = omega arith }
 
 pub loop-index-preserved : goal.loop-index-preserved
-loop-index-preserved g c = rows_more _ _ _ _ _ _ _ (Constant false) c.requires.all c.args.shape.inside c.requires.operands c.loop-index-test.true c.loop-index.invariant c.part-row.ensures
+loop-index-preserved g c = rows_more _ _ _ _ _ _ _ (Constant false) c.requires.all c.args.shape.inside c.requires.operands c.loop-index-test.true c.loop-index.invariant c.part_row.ensures
 
 pub returns : goal.returns
 returns g c = rows_all _ _ _ _ _ _ c.requires.all c.args.shape.inside c.requires.some (omega arith) c.loop-index.invariant

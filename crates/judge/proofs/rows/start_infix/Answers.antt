@@ -8,7 +8,7 @@ loop-i-init c = filled_none _ _ _
 pub loop-i-preserved : goal.loop-i-preserved
 loop-i-preserved c =
     filled_more _ _ _ _ _ _ (omega arith) c.loop-i.invariant
-    (c.infix-start.ensures
+    (c.infix_start.ensures
     ∙ ap₂ (infix_start c.args.op)
     (row_kept _ _ _ _ c.args.left _ c.loop-i.invariant c.loop-i.i (omega arith))
     (row_kept _ _ _ _ c.args.right _ c.loop-i.invariant c.loop-i.i (omega arith)))

@@ -11,7 +11,7 @@ pub loop-i-preserved : goal.loop-i-preserved
 loop-i-preserved c =
     let lt : after c.args.shape.count c.args.shape.lead_in c.loop-i.i < c.args.shape.count = after_lt _ _ _ c.args.shape.inside (omega arith) in
     filled_more _ _ _ _ _ _ (omega arith) c.loop-i.invariant
-    (c.prefix-start.ensures
+    (c.prefix_start.ensures
     ∙ ap₂ (prefix_start c.args.op)
     (row_kept _ _ _ _ c.args.operand _ c.loop-i.invariant c.loop-i.i (omega arith))
     (ap (row c.loop-i.work c.args.operand) c.after.ensures
