@@ -3,9 +3,7 @@ use Rattle.std.proofs.Common.{◌≡◌, ℕ, ◌+◌, ◌*◌, ◌≤◌, min, 
 use Rattle.std.proofs.lemmas.Bool.{cond_both}
 use Rattle.faults.specs.declared.Fault.{Fault}
 use Rattle.faults.specs.Numbers.{cause_number}
-use Rattle.rules.specs.declared.rule.Rule.{Rule}
-use Rattle.rules.specs.Refusal.{Refused, too_long, unexpected, too_many, too_short, Answered}
-use Rattle.rules.specs.Rules.{formula}
+use Rattle.rules.specs.Refusal.{Refused, too_long, unexpected, too_many, too_short}
 use Rattle.formulas.specs.Formula.{Formula}
 use Rattle.judge.specs.Answer.{judged}
 use Rattle.lassos.specs.Bytes.{byte_labels}

@@ -1,5 +1,5 @@
 -- The numbers that users know causes and layers by. Given once, here.
-use Rattle.std.specs.Prelude.{ℕ, List, [], ◌∷◌, ◌++◌, decimal}
+use Rattle.std.specs.Prelude.{ℕ, List, ◌∷◌, ◌++◌, decimal}
 use Rattle.faults.specs.declared.Cause.{Cause}
 use Rattle.faults.specs.declared.Cause.TheVariants.{TextTooLong, UnexpectedByte, TextTooShort, TooManyOperators, FileTooShort, BadMark, BadRecord, TrailingBytes, NoSuchArgument, BadLeadIn, DrawingFull, AlreadyJoined, NotJoined, TooManyNodes, ListTooShort, NoStart}
 use Rattle.faults.specs.declared.Layer.{Layer}

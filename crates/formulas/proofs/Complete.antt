@@ -1,6 +1,6 @@
 -- The machine reads every text of the grammar.
-use Rattle.std.proofs.Common.{◌≡◌, ℕ, suc, ◌+◌, ◌-◌, ◌<◌, ◌≤◌, Bool, true, false, cond, ltb, leb, List, [], ◌∷◌, ◌++◌, sym, refl, ap, ◌∙◌, arith, lit<, lit≤}
-use Rattle.std.proofs.lemmas.Bool.{lt-ltb, le-ltb, le-leb, ltb-true}
+use Rattle.std.proofs.Common.{◌≡◌, ℕ, suc, ◌+◌, ◌-◌, ◌<◌, ◌≤◌, true, false, cond, ltb, List, [], ◌∷◌, ◌++◌, refl, ap, ◌∙◌, arith, lit<, lit≤}
+use Rattle.std.proofs.lemmas.Bool.{lt-ltb, le-ltb, le-leb}
 use Rattle.std.proofs.lemmas.Bool.Decides.{nat_tests}
 use Rattle.formulas.specs.declared.Prefix.{Prefix}
 use Rattle.formulas.specs.declared.Prefix.TheVariants.{Not, Next, Finally, Globally}
@@ -8,10 +8,10 @@ use Rattle.formulas.specs.declared.Infix.{Infix}
 use Rattle.formulas.specs.declared.Infix.TheVariants.{Implies, Or, And, Until, Release}
 use Rattle.formulas.specs.declared.Sign.{Sign}
 use Rattle.formulas.specs.declared.Sign.TheVariants.{Letter, Before}
-use Rattle.formulas.specs.Formula.{Formula, constant, letter, unary, binary}
+use Rattle.formulas.specs.Formula.{Formula, constant, letter}
 use Rattle.formulas.specs.Sign.{sign, is_letter, prefix_sign, infix_sign}
-use Rattle.formulas.specs.Grammar.{level, left, right, Text, zero_text, one_text, letter_text, prefixed, bracketed, joined, tighter, blank_before, blank_after, Reads, Begins}
-use Rattle.formulas.proofs.Machine.{Frame, bracket, waiting, halfway, bound, bound_top, apply, reduce, State, wanting, having, dashed, failed, push, close, step, run, run_append, run_failed}
+use Rattle.formulas.specs.Grammar.{level, left, right, Text, zero_text, one_text, letter_text, prefixed, bracketed, joined, tighter, blank_before, blank_after}
+use Rattle.formulas.proofs.Machine.{Frame, bracket, waiting, halfway, bound, bound_top, apply, reduce, State, wanting, having, push, close, step, run, run_append}
 
 -- a text of level l leaves only frames that bind at least so tight
 abbrev reach : ℕ → ℕ

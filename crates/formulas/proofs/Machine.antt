@@ -1,9 +1,9 @@
 -- A machine that reads a text byte by byte, with a stack of what is still open. The grammar does not speak of it;
 -- `Complete` and `Sound` show that it reads just the texts of the grammar.
-use Rattle.std.proofs.Common.{◌≡◌, ℕ, Bool, true, false, cond, ltb, List, [], ◌∷◌, ◌++◌, refl, ap}
+use Rattle.std.proofs.Common.{◌≡◌, ℕ, cond, ltb, List, [], ◌∷◌, ◌++◌, refl}
 use Rattle.formulas.specs.declared.Prefix.{Prefix}
 use Rattle.formulas.specs.declared.Infix.{Infix}
-use Rattle.formulas.specs.declared.Infix.TheVariants.{Implies, Or, And, Until, Release}
+use Rattle.formulas.specs.declared.Infix.TheVariants.{Implies}
 use Rattle.formulas.specs.declared.Sign.{Sign}
 use Rattle.formulas.specs.declared.Sign.TheVariants.{Blank, Open, Close, Dash, Head, Constant, Letter, Before, Between, Unknown}
 use Rattle.formulas.specs.Formula.{Formula, constant, letter, unary, binary}

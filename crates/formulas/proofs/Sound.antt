@@ -1,20 +1,19 @@
 -- What the machine has read is a text of the grammar, or can be completed to one.
-use Rattle.std.proofs.Common.{◌≡◌, ℕ, zero, suc, ◌+◌, ◌-◌, ◌<◌, ◌≤◌, Bool, true, false, cond, eqb, ltb, leb, ◌⊎◌, List, [], ◌∷◌, ◌++◌, sym, refl, ap, ◌∙◌, subst, ap₂, inl, inr, append_assoc, arith, lit<, lit≤}
+use Rattle.std.proofs.Common.{◌≡◌, ℕ, zero, suc, ◌+◌, ◌-◌, ◌<◌, ◌≤◌, true, false, eqb, leb, List, [], ◌∷◌, ◌++◌, sym, refl, ap, ◌∙◌, subst, ap₂, append_assoc, arith, lit<, lit≤}
 use native.Mathlib.Decide.{dec_lt}
 use Rattle.std.proofs.lemmas.List.{append-nil}
-use Rattle.std.proofs.lemmas.Bool.{cond_both, eqb-true, leb-true, both_ways, ltb-true, ltb-false, cases_Bool}
+use Rattle.std.proofs.lemmas.Bool.{cond_both, eqb-true, leb-true}
 use Rattle.formulas.specs.declared.Prefix.{Prefix}
-use Rattle.formulas.specs.declared.Prefix.TheVariants.{Not, Next, Finally, Globally}
 use Rattle.formulas.specs.declared.Infix.{Infix}
 use Rattle.formulas.specs.declared.Infix.TheVariants.{Implies, Or, And, Until, Release}
 use Rattle.formulas.specs.declared.Sign.{Sign}
 use Rattle.formulas.specs.declared.Sign.TheVariants.{Blank, Open, Close, Dash, Head, Constant, Letter, Before, Between, Unknown}
-use Rattle.formulas.specs.Formula.{Formula, constant, letter, unary, binary}
+use Rattle.formulas.specs.Formula.{Formula, constant, letter}
 use Rattle.formulas.specs.Sign.{sign, is_letter, prefix_sign, infix_sign}
 use Rattle.formulas.specs.Grammar.{level, left, right, Text, zero_text, one_text, letter_text, prefixed, bracketed, joined, tighter, blank_before, blank_after, Reads, Begins}
 use Rattle.formulas.proofs.Values.{both_true}
-use Rattle.formulas.proofs.Machine.{Frame, bracket, waiting, halfway, bound, bound_top, apply, reduce, State, wanting, having, dashed, failed, push, close, close_top, step, step_wanting, step_having, step_dashed, run, run_append, run_failed}
-use Rattle.formulas.proofs.Complete.{reduce_takes, reduce_stays, Done, reads, level_left}
+use Rattle.formulas.proofs.Machine.{Frame, bracket, waiting, halfway, bound, bound_top, apply, reduce, State, wanting, having, dashed, failed, push, close_top, step, step_wanting, step_having, step_dashed, run, run_append, run_failed}
+use Rattle.formulas.proofs.Complete.{reduce_takes, reduce_stays, reads, level_left}
 
 -- the byte of a sign
 abbrev pub Spelt : Sign → ℕ → Type 0

@@ -1,11 +1,11 @@
 -- The values of a table of parts, as `values-on` makes them: a value stays as more parts follow, and in a sound table
 -- each is made from the values of the whole table.
-use Rattle.std.proofs.Common.{◌≡◌, ℕ, zero, suc, ◌+◌, ◌-◌, ◌<◌, ◌≤◌, Bool, true, false, cond, ltb, List, [], ◌∷◌, ◌++◌, length, get_or, sym, refl, ap, ◌∙◌, inl, inr, append_assoc, add-zero, zero-add, arith, length-append}
+use Rattle.std.proofs.Common.{◌≡◌, ℕ, zero, suc, ◌+◌, ◌-◌, ◌<◌, ◌≤◌, Bool, true, false, cond, ltb, List, [], ◌∷◌, ◌++◌, length, get_or, sym, refl, ap, ◌∙◌, inl, inr, add-zero, zero-add, arith, length-append}
 use Rattle.std.proofs.lemmas.List.{get_or_append_left, get_or_at, get_or_past, length_push}
 use Rattle.std.proofs.lemmas.Bool.{ltb-true, both_ways, cases_order}
 use Rattle.formulas.specs.declared.Part.{Part}
 use Rattle.formulas.specs.declared.Part.TheVariants.{Constant, Letter, Unary, Binary}
-use Rattle.formulas.specs.Formula.{Formula, constant, unary, binary, temporal_prefix, temporal_infix, operators}
+use Rattle.formulas.specs.Formula.{Formula, constant, unary, temporal_prefix, temporal_infix, operators}
 use Rattle.formulas.specs.Table.{values_on, formula_over, formulas, locations_over, locations, whole_formula, whole_locations, sound_part, sound_from, sound}
 
 -- a test made of two

@@ -1,5 +1,5 @@
 -- Formulas of linear temporal logic, as trees.
-use Rattle.std.specs.Prelude.{ℕ, suc, ◌+◌, Bool, true, false, cond}
+use Rattle.std.specs.Prelude.{ℕ, ◌+◌, Bool, true, false, cond}
 use Rattle.formulas.specs.declared.Prefix.{Prefix}
 use Rattle.formulas.specs.declared.Prefix.TheVariants.{Not, Next, Finally, Globally}
 use Rattle.formulas.specs.declared.Infix.{Infix}

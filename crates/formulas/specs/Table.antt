@@ -1,6 +1,6 @@
 -- A rule as a table of parts, in which operands stand below their operator and the last part is the whole rule:
 -- what each part stands for, and when a table is sound.
-use Rattle.std.specs.Prelude.{◌≡◌, ℕ, zero, suc, ◌+◌, ◌-◌, Bool, true, false, cond, List, [], ◌∷◌, ◌++◌, length, nat_lt, slice_index_or}
+use Rattle.std.specs.Prelude.{ℕ, zero, suc, ◌-◌, Bool, true, false, cond, List, [], ◌∷◌, ◌++◌, length, nat_lt, slice_index_or}
 use Rattle.formulas.specs.declared.Part.{Part}
 use Rattle.formulas.specs.declared.Part.TheVariants.{Constant, Letter, Unary, Binary}
 use Rattle.formulas.specs.Formula.{Formula, constant, letter, unary, binary, temporal_prefix, temporal_infix}

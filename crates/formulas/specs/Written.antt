@@ -1,6 +1,6 @@
 -- The text that a formula is written as: no blanks, and brackets round a part only where the grammar would
 -- otherwise group it differently.
-use Rattle.std.specs.Prelude.{ℕ, ◌+◌, Bool, true, false, cond, List, [], ◌∷◌, ◌++◌, nat_lt}
+use Rattle.std.specs.Prelude.{ℕ, ◌+◌, true, false, cond, List, [], ◌∷◌, ◌++◌, nat_lt}
 use Rattle.formulas.specs.Formula.{Formula, constant, letter, unary, binary}
 use Rattle.formulas.specs.Sign.{prefix_sign, infix_sign}
 use Rattle.formulas.specs.Grammar.{level, left, right}

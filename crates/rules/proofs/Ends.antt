@@ -1,12 +1,11 @@
 -- From a reader to the answer: what each stop and the end say of the whole text.
-use Rattle.std.proofs.Common.{◌≡◌, ℕ, zero, suc, ◌+◌, ◌-◌, ◌<◌, ◌≤◌, Bool, true, false, cond, List, [], ◌∷◌, ◌++◌, length, get_or, take, Ok, Err, Result, sym, refl, ap, ◌∙◌, subst, ap₂, inl, inr, add-zero, add-one, arith}
+use Rattle.std.proofs.Common.{◌≡◌, ℕ, zero, suc, ◌+◌, ◌<◌, ◌≤◌, List, [], ◌∷◌, ◌++◌, length, get_or, take, Ok, Err, Result, sym, refl, ap, ◌∙◌, ap₂, inl, inr, add-one, arith}
 use Rattle.std.proofs.lemmas.List.{take_more, take_all}
 use Rattle.faults.specs.declared.Fault.{Fault}
-use Rattle.formulas.specs.declared.Sign.{Sign}
 use Rattle.formulas.specs.Formula.{Formula, operators}
 use Rattle.formulas.specs.Sign.{sign}
 use Rattle.formulas.specs.Grammar.{Reads, Begins, temporals}
-use Rattle.formulas.specs.Table.{formulas, locations, whole_formula, whole_locations, counted_from, sound}
+use Rattle.formulas.specs.Table.{formulas, locations, whole_formula, whole_locations, counted_from}
 use Rattle.formulas.specs.Written.{written}
 use Rattle.formulas.proofs.Values.{locations_count}
 use Rattle.formulas.proofs.Shortest.{only_shortest}
@@ -20,7 +19,7 @@ use Rattle.rules.specs.declared.reader.Frame.{Frame}
 use Rattle.rules.specs.declared.reader.Reader.{Reader}
 use Rattle.rules.specs.declared.rule.Rule.{Rule}
 use Rattle.rules.specs.Reading.{parts_of, frames_of, stack, state, state_of, open_locations, all_locations, less_frame, top_frame, one_if, Sane, Reduced, Moved, Stopped, no_rule, tenth, Finished, Progress}
-use Rattle.rules.specs.Refusal.{Refused, unexpected, too_many, too_short, Answered, Accepted}
+use Rattle.rules.specs.Refusal.{Refused, unexpected, too_many, too_short, Answered}
 use Rattle.rules.specs.Rules.{formula}
 use Rattle.rules.proofs.Tables.{frames_less, stack_push}
 

@@ -1,18 +1,17 @@
 -- A frame that takes its operand, and all that bind tighter than a level.
-use Rattle.std.proofs.Common.{◌≡◌, ℕ, zero, suc, ◌+◌, ◌-◌, ◌<◌, ◌≤◌, Bool, true, false, cond, ltb, List, [], ◌∷◌, ◌++◌, length, get_or, take, set, sym, refl, ap, ◌∙◌, ap₂, append_assoc, arith, length-set}
-use Rattle.std.proofs.lemmas.Bool.{ltb-true, lt-ltb, both_ways}
+use Rattle.std.proofs.Common.{◌≡◌, ℕ, ◌-◌, ◌<◌, ◌≤◌, true, cond, ltb, List, [], ◌∷◌, ◌++◌, length, get_or, take, sym, refl, ap, ◌∙◌, ap₂, append_assoc, arith, length-set}
+use Rattle.std.proofs.lemmas.Bool.{lt-ltb}
 use Rattle.formulas.specs.declared.Part.{Part}
-use Rattle.formulas.specs.declared.Part.TheVariants.{Constant, Letter, Unary, Binary}
-use Rattle.formulas.specs.Formula.{Formula, constant, unary, binary, temporal_prefix, temporal_infix}
-use Rattle.formulas.specs.Table.{formula_over, formulas, locations_over, locations, whole_formula, whole_locations, sound, sound_part}
-use Rattle.formulas.proofs.Values.{both_true, sound_push}
+use Rattle.formulas.specs.Formula.{Formula, temporal_infix}
+use Rattle.formulas.specs.Table.{formula_over, formulas, locations_over, locations, whole_formula, whole_locations, sound_part}
+use Rattle.formulas.proofs.Values.{sound_push}
 use Rattle.formulas.proofs.Machine as machine
 use Rattle.formulas.proofs.Machine.{reduce, apply, bound, bound_top}
 use Rattle.formulas.proofs.Complete.{reduce_takes, reduce_stays}
 use Rattle.rules.specs.declared.reader.Frame.{Frame}
 use Rattle.rules.specs.declared.reader.Frame.TheVariants.{Bracket, Waiting, Halfway}
 use Rattle.rules.specs.declared.reader.Reader.{Reader}
-use Rattle.rules.specs.Reading.{parts_of, frames_of, binds, frame_over, stack_on, stack, frame_locations, open_locations, all_locations, left_within, lefts_within, Fitting, Tables, with_part, with_frame, less_frame, top_frame, completed, applied, Reduced}
+use Rattle.rules.specs.Reading.{parts_of, frames_of, binds, frame_over, stack, frame_locations, open_locations, all_locations, left_within, Fitting, Tables, less_frame, top_frame, completed, applied, Reduced}
 use Rattle.rules.proofs.Tables.{whole_new, locations_new, stack_push, open_push, lefts_pop, lefts_more, stack_kept, open_kept, parts_with, frames_less, parts_count}
 
 pub bound_is : (fs : List Formula) (x : Frame) → bound (frame_over fs x) ≡ binds x

@@ -1,17 +1,17 @@
 -- What each sign does to a reader, against the machine.
-use Rattle.std.proofs.Common.{◌≡◌, ℕ, zero, suc, ◌+◌, ◌-◌, ◌<◌, ◌≤◌, Bool, true, false, cond, ltb, List, [], ◌∷◌, ◌++◌, length, get_or, take, set, Ok, Err, Result, sym, refl, ap, ◌∙◌, ap₂, append_assoc, add-zero, arith, length-set}
+use Rattle.std.proofs.Common.{◌≡◌, ℕ, zero, suc, ◌+◌, ◌-◌, ◌<◌, ◌≤◌, Bool, true, false, cond, List, [], ◌∷◌, ◌++◌, length, get_or, take, Ok, Err, Result, sym, refl, ap, ◌∙◌, ap₂, append_assoc, add-zero, arith, length-set}
 use Rattle.std.proofs.lemmas.List.{length_push, append-nil}
 use Rattle.std.proofs.lemmas.Bool.{lt-ltb}
 use Rattle.formulas.specs.declared.Part.{Part}
-use Rattle.formulas.specs.declared.Part.TheVariants.{Constant, Letter, Unary, Binary}
+use Rattle.formulas.specs.declared.Part.TheVariants.{Constant, Letter}
 use Rattle.formulas.specs.declared.Infix.{Infix}
 use Rattle.formulas.specs.declared.Prefix.{Prefix}
 use Rattle.formulas.specs.declared.Sign.{Sign}
-use Rattle.formulas.specs.declared.Sign.TheVariants.{Blank, Open, Close, Dash, Head, Before, Between}
+use Rattle.formulas.specs.declared.Sign.TheVariants.{Open, Close, Before}
 use Rattle.formulas.specs.declared.Sign.TheVariants.{Constant as ConstantSign, Letter as LetterSign}
 use Rattle.formulas.specs.Formula.{Formula, constant, letter, temporal_prefix, temporal_infix}
 use Rattle.formulas.specs.Grammar.{level}
-use Rattle.formulas.specs.Table.{formula_over, formulas, locations_over, locations, whole_formula, whole_locations, counted_from, sound, sound_part}
+use Rattle.formulas.specs.Table.{formula_over, formulas, locations_over, locations, whole_formula, whole_locations, counted_from, sound_part}
 use Rattle.formulas.proofs.Values.{sound_push}
 use Rattle.formulas.proofs.Machine as machine
 use Rattle.formulas.proofs.Machine.{State, wanting, having, dashed, failed, reduce, push, close, close_top, step, bound_top, bracket, waiting, halfway}
@@ -19,10 +19,9 @@ use Rattle.formulas.proofs.Sound.{right_low, reduce_bound, Alive}
 use Rattle.formulas.proofs.Temporal.{temporal_of}
 use Rattle.rules.specs.declared.reader.Frame.{Frame}
 use Rattle.rules.specs.declared.reader.Frame.TheVariants.{Bracket, Waiting, Halfway}
-use Rattle.rules.specs.declared.reader.Mode.{Mode}
-use Rattle.rules.specs.declared.reader.Mode.TheVariants.{Wanting, Having, Dashed}
+use Rattle.rules.specs.declared.reader.Mode.TheVariants.{Wanting, Having}
 use Rattle.rules.specs.declared.reader.Reader.{Reader}
-use Rattle.rules.specs.Reading.{parts_of, frames_of, binds, frame_over, stack, state, state_of, frame_locations, open_locations, all_locations, mode_locations, left_within, lefts_within, has_part, Fitting, Tables, Sane, with_part, with_frame, less_frame, in_mode, with_temporals, top_frame, one_if, Reduced, Moved, Joined, Joining, Stopped, no_rule, tenth, Stepped, Known}
+use Rattle.rules.specs.Reading.{parts_of, frames_of, binds, frame_over, stack, state, state_of, frame_locations, open_locations, all_locations, mode_locations, left_within, Fitting, Tables, Sane, with_part, with_frame, less_frame, in_mode, with_temporals, top_frame, one_if, Reduced, Moved, Joined, Joining, Stopped, no_rule, tenth, Stepped, Known}
 use Rattle.rules.specs.Refusal.{rule_fault}
 use Rattle.faults.specs.declared.Cause.TheVariants.{UnexpectedByte, TooManyOperators}
 use Rattle.faults.specs.declared.Fault.{Fault}

@@ -1,17 +1,16 @@
 -- A reader's parts and frames, as one is added or taken away.
-use Rattle.std.proofs.Common.{◌≡◌, ℕ, zero, suc, ◌+◌, ◌-◌, ◌<◌, ◌≤◌, Bool, true, false, cond, ltb, List, [], ◌∷◌, ◌++◌, length, get_or, take, set, sym, refl, ap, ◌∙◌, ap₂, append_assoc, zero-add, arith, length-append}
+use Rattle.std.proofs.Common.{◌≡◌, ℕ, ◌+◌, ◌-◌, ◌<◌, ◌≤◌, true, false, cond, List, [], ◌∷◌, ◌++◌, length, get_or, take, sym, refl, ap, ◌∙◌, ap₂, append_assoc, zero-add, arith}
 use Rattle.std.proofs.lemmas.List.{get_or_append_left, get_or_at, length_push, take_more, take_more_set, append-nil, length-take-le}
-use Rattle.std.proofs.lemmas.Bool.{ltb-true, lt-ltb, both_ways}
+use Rattle.std.proofs.lemmas.Bool.{ltb-true, lt-ltb}
 use Rattle.formulas.specs.declared.Part.{Part}
-use Rattle.formulas.specs.declared.Part.TheVariants.{Constant, Letter, Unary, Binary}
-use Rattle.formulas.specs.Formula.{Formula, constant, temporal_prefix, temporal_infix}
-use Rattle.formulas.specs.Table.{values_on, formula_over, formulas, locations_over, locations, whole_formula, whole_locations, sound, sound_part}
-use Rattle.formulas.proofs.Values.{both_true, values_length, values_push, sound_push}
+use Rattle.formulas.specs.Formula.{Formula, constant, temporal_infix}
+use Rattle.formulas.specs.Table.{values_on, formula_over, formulas, locations_over, locations, whole_formula, whole_locations}
+use Rattle.formulas.proofs.Values.{both_true, values_length, values_push}
 use Rattle.formulas.proofs.Machine as machine
 use Rattle.rules.specs.declared.reader.Frame.{Frame}
 use Rattle.rules.specs.declared.reader.Frame.TheVariants.{Bracket, Waiting, Halfway}
 use Rattle.rules.specs.declared.reader.Reader.{Reader}
-use Rattle.rules.specs.Reading.{parts_of, frames_of, binds, frame_over, stack_on, stack, frame_locations, open_locations, all_locations, left_within, lefts_within, Fitting, with_part, with_frame, less_frame, top_frame}
+use Rattle.rules.specs.Reading.{parts_of, frames_of, frame_over, stack_on, stack, frame_locations, open_locations, left_within, lefts_within, with_part, with_frame, less_frame, top_frame}
 
 -- one value more
 module _ {A : Type 0} (make : List A → Part → A) (d : A) (P : List Part) (p : Part) where

@@ -1,5 +1,5 @@
 -- The text of a part, from the texts of its operands.
-use Rattle.std.proofs.Common.{◌≡◌, ℕ, zero, suc, ◌+◌, ◌-◌, ◌<◌, ◌≤◌, Bool, true, false, cond, ltb, List, [], ◌∷◌, ◌++◌, length, get_or, take, drop, set, sym, refl, ap, ◌∙◌, ap₂, append_assoc, add-zero, arith, length-append}
+use Rattle.std.proofs.Common.{◌≡◌, ℕ, suc, ◌+◌, ◌<◌, ◌≤◌, Bool, true, false, cond, ltb, List, [], ◌∷◌, ◌++◌, length, get_or, take, drop, set, sym, ap, ◌∙◌, ap₂, append_assoc, add-zero, arith, length-append}
 use lib.Seq.{sets, sets-eq, take-append_seam}
 use Rattle.std.proofs.lemmas.List.{append-nil}
 use Rattle.std.proofs.lemmas.Bool.{ltb-true}
@@ -7,7 +7,6 @@ use Rattle.formulas.specs.declared.Infix.{Infix}
 use Rattle.formulas.specs.declared.Prefix.{Prefix}
 use Rattle.formulas.specs.declared.Part.{Part}
 use Rattle.formulas.specs.declared.Part.TheVariants.{Constant, Letter, Unary, Binary}
-use Rattle.formulas.specs.Formula.{Formula, constant, letter, unary, binary}
 use Rattle.formulas.specs.Grammar.{level, left, right}
 use Rattle.formulas.specs.Sign.{prefix_sign, infix_sign}
 use Rattle.formulas.specs.Table.{formulas, formula_over, sound, sound_part}

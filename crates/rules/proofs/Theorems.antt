@@ -1,21 +1,18 @@
 -- The laws of rule texts.
-use Rattle.std.proofs.Common.{◌≡◌, ℕ, suc, ◌+◌, ◌-◌, ◌<◌, ◌≤◌, Bool, true, false, cond, ◌⊎◌, List, [], ◌∷◌, ◌++◌, length, take, drop, Ok, Err, codes, Result, sym, refl, ap, ◌∙◌, subst, inl, inr, arith, lit<, lit≤, take-append-drop}
+use Rattle.std.proofs.Common.{◌≡◌, ℕ, suc, ◌≤◌, List, [], ◌++◌, take, drop, Ok, Err, codes, sym, refl, ap, ◌∙◌, subst, inl, inr, arith, lit<, lit≤, take-append-drop}
 use Rattle.std.proofs.lemmas.List.{take-take}
 use Rattle.std.proofs.lemmas.Bool.{cases_order}
-use Rattle.faults.specs.declared.Cause.TheVariants.{TextTooLong, UnexpectedByte, TextTooShort, TooManyOperators}
+use Rattle.faults.specs.declared.Cause.TheVariants.{UnexpectedByte, TooManyOperators}
 use Rattle.faults.specs.declared.Fault.{Fault}
-use Rattle.formulas.specs.declared.Infix.TheVariants.{And, Until}
-use Rattle.formulas.specs.Formula.{Formula, letter, binary}
+use Rattle.formulas.specs.Formula.{Formula}
 use Rattle.formulas.specs.Grammar.{Reads, Begins, temporals}
-use Rattle.formulas.specs.Written.{written}
 use Rattle.formulas.proofs.Machine.{Frame, wanting, having}
 use Rattle.formulas.proofs.Sound.{begins_front, alive_run, failed_run, accepted_reads, reads_accepted, one_formula}
 use Rattle.formulas.proofs.Shortest.{written_reads, only_shortest}
 use Rattle.formulas.proofs.Temporal.{temporals_append}
-use Rattle.rules.specs.declared.rule.Rule.{Rule}
-use Rattle.rules.specs.Refusal.{rule_fault, Refused, too_long, unexpected, too_many, too_short, Accepted, Answered}
+use Rattle.rules.specs.Refusal.{rule_fault, Refused, too_long, unexpected, too_many, too_short, Accepted}
 use Rattle.rules.specs.Rules.{formula}
-use Rattle.rules.specs.Laws.{OneFormula, SameAnswer, OneAnswer, Shortest, Worked}
+use Rattle.rules.specs.Laws.{OneFormula, OneAnswer, Shortest, Worked}
 
 pub one_formula_law : OneFormula
 one_formula_law text f g x y = one_formula text f g x y

@@ -2,8 +2,6 @@
 use Rattle.std.specs.Prelude.{◌≡◌, ℕ, ◌<◌, ◌⊎◌, List, [], length, Ok, Err, codes, Result}
 use Rattle.faults.specs.declared.Cause.TheVariants.{UnexpectedByte, TextTooShort, TooManyOperators}
 use Rattle.faults.specs.declared.Fault.{Fault}
-use Rattle.formulas.specs.declared.Prefix.TheVariants.{Globally}
-use Rattle.formulas.specs.declared.Infix.{Infix}
 use Rattle.formulas.specs.declared.Infix.TheVariants.{And, Until}
 use Rattle.formulas.specs.Formula.{Formula, letter, binary}
 use Rattle.formulas.specs.Grammar.{Reads}

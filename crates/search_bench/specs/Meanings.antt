@@ -1,5 +1,5 @@
 -- A list of steps as a graph.
-use Rattle.std.specs.Prelude.{ℕ, ◌+◌, ◌*◌, Bool, false, cond, ◌&&◌, List, length, Some, None, Option, ◌==◌, nat_lt, slice_index}
+use Rattle.std.specs.Prelude.{ℕ, ◌+◌, ◌*◌, false, cond, ◌&&◌, List, length, Some, None, Option, ◌==◌, nat_lt, slice_index}
 use Rattle.components.specs.Graphs.{Graph}
 use Rattle.search_bench.specs.declared.listed.Listed.{Listed}
 

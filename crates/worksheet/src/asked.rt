@@ -65,19 +65,19 @@ pub(crate) fn read_dialogue(
     let Some(kind) = words.next() else {
         return Ok(None);
     };
-    if kind == b"drawing" {
+    if kind == b"drawing".as_slice() {
         return some_pile(Pile::drawn(heap, *drawing));
     }
-    if kind == b"file" {
+    if kind == b"file".as_slice() {
         return read_filed(heap, words);
     }
-    if kind == b"free" {
+    if kind == b"free".as_slice() {
         return Ok(read_free(words));
     }
     if depth == 0 {
         return Ok(None);
     }
-    if kind == b"bar" {
+    if kind == b"bar".as_slice() {
         let Some(event) = words.next() else {
             return Ok(None);
         };
@@ -86,7 +86,7 @@ pub(crate) fn read_dialogue(
         };
         return bar(heap, event, below);
     }
-    if kind == b"pair" {
+    if kind == b"pair".as_slice() {
         let Some(left) = read_dialogue(heap, drawing, words, depth - 1)? else {
             return Ok(None);
         };

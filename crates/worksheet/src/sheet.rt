@@ -35,21 +35,21 @@ impl Sheet {
             return Ok(());
         }
         let (command, rest) = split_word(line);
-        if command == b"rule" {
+        if command == b"rule".as_slice() {
             self.read_rule(rest, page)
-        } else if command == b"rule-hex" {
+        } else if command == b"rule-hex".as_slice() {
             self.read_rule_hex(rest, page)
-        } else if command == b"write" {
+        } else if command == b"write".as_slice() {
             self.write_rule(rest, page)
-        } else if command == b"journey" {
+        } else if command == b"journey".as_slice() {
             let journey = read_journey(self.heap, rest)?;
             self.keep_journey(journey, page)
-        } else if command == b"journey-hex" {
+        } else if command == b"journey-hex".as_slice() {
             let journey = read_journey_hex(self.heap, rest)?;
             self.keep_journey(journey, page)
-        } else if command == b"judge" {
+        } else if command == b"judge".as_slice() {
             self.judge_journey(rest, page)
-        } else if line == b"help" {
+        } else if line == b"help".as_slice() {
             help(page)
         } else {
             self.draw(command, rest, page)
@@ -59,23 +59,23 @@ impl Sheet {
     /// The lines on the drawing.
     fn draw(&mut self, command: &[u8], rest: &[u8], page: &mut Page) -> Result<(), AllocError> {
         let mut words = Words::new(rest);
-        if command == b"new" && words.at_end() {
+        if command == b"new".as_slice() && words.at_end() {
             self.drawing = Drawing::new();
             page.done()
-        } else if command == b"wipe" && words.at_end() {
+        } else if command == b"wipe".as_slice() && words.at_end() {
             self.drawing.wipe();
             page.done()
-        } else if command == b"add" {
+        } else if command == b"add".as_slice() {
             drawn::add(&mut self.drawing, &mut words, page)
-        } else if command == b"relabel" {
+        } else if command == b"relabel".as_slice() {
             drawn::relabel(&mut self.drawing, &mut words, page)
-        } else if command == b"join" {
+        } else if command == b"join".as_slice() {
             drawn::join(&mut self.drawing, &mut words, page)
-        } else if command == b"cut" {
+        } else if command == b"cut".as_slice() {
             drawn::cut(&mut self.drawing, &mut words, page)
-        } else if command == b"take" {
+        } else if command == b"take".as_slice() {
             drawn::take(self.heap, &mut self.drawing, rest, page)
-        } else if command == b"file" {
+        } else if command == b"file".as_slice() {
             self.write_file(rest, page)
         } else {
             self.consult(command, rest, page)
@@ -84,16 +84,16 @@ impl Sheet {
 
     /// The lines on files and on the kept dialogue.
     fn consult(&mut self, command: &[u8], rest: &[u8], page: &mut Page) -> Result<(), AllocError> {
-        if command == b"fault" {
+        if command == b"fault".as_slice() {
             self.tell_fault(rest, page)
-        } else if command == b"dialogue" {
+        } else if command == b"dialogue".as_slice() {
             let kept = read_whole(self.heap, &self.drawing, rest)?;
             self.keep_dialogue(kept, page)
-        } else if command == b"ask" || command == b"loops" {
+        } else if command == b"ask".as_slice() || command == b"loops".as_slice() {
             let Some(kept) = &self.dialogue else {
                 return page.unknown(b"no dialogue is kept");
             };
-            if command == b"ask" {
+            if command == b"ask".as_slice() {
                 ask(kept, &mut Words::new(rest), page)
             } else {
                 mark_loops(self.heap, kept, rest, page)

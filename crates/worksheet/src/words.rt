@@ -114,7 +114,7 @@ fn hex_digit(b: u8) -> Option<u8>
 /// Bytes in hexadecimal, two digits each, `-` for none. None where the word is no such thing.
 pub(crate) fn hex_bytes(heap: Global, word: &[u8]) -> Result<Option<Vec<u8>>, AllocError> {
     let mut bytes = Vec::new(heap);
-    if word == b"-" {
+    if word == b"-".as_slice() {
         return Ok(Some(bytes));
     }
     if word.is_empty() || word.len() % 2 == 1 {
@@ -131,7 +131,7 @@ pub(crate) fn hex_bytes(heap: Global, word: &[u8]) -> Result<Option<Vec<u8>>, Al
 
 /// A label: letters a to p, `-` for none, or a decimal number below 65,536.
 pub(crate) fn label(word: &[u8]) -> Option<u16> {
-    if word == b"-" {
+    if word == b"-".as_slice() {
         return Some(0);
     }
     if let Some(n) = number(word) {

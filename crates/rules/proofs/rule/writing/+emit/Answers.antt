@@ -1,4 +1,4 @@
-use Rattle.std.proofs.Common.{◌≡◌, ℕ, ◌+◌, ◌<◌, ◌≤◌, ltb, List, [], ◌∷◌, ◌++◌, length, set, sym, refl, ap, ◌∙◌, arith}
+use Rattle.std.proofs.Common.{◌≡◌, ℕ, ◌+◌, ltb, length, set, sym, refl, ap, ◌∙◌, arith}
 use lib.Seq.{sets}
 use Rattle.formulas.specs.Grammar.{left, right}
 use Rattle.formulas.specs.Sign.{infix_sign}
