@@ -58,6 +58,9 @@ def mend(crate):
                 text = f.read()
 
             def today(word):
+                last = os.path.basename(home)
+                if last.startswith("+") and plain(word) == "decreases-" + plain(last[1:]):
+                    return "decreases-" + last[1:]
                 if word in valid or plain(word) not in new:
                     return word
                 options = new[plain(word)]
