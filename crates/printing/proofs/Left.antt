@@ -4,14 +4,14 @@ use Rattle.std.specs.List.{flat_map}
 use Rattle.std.proofs.lemmas.List.{at_drop_more, at_drop_all, length-append}
 use Rattle.std.proofs.lemmas.Bool.{lt-ltb, le-ltb, and_left, and_right, and_from}
 use Rattle.tables.specs.Table.{Table}
-use Rattle.unfolding.specs.declared.Entry.{Entry}
+use Rattle.unfolding.specs.declared.Press.{Press}
 use Rattle.printing.specs.Refusal.{exists, first_absent}
 
 -- the entry at a place, as the code reads it
-abbrev pub at_place : List Entry → ℕ → Entry
+abbrev pub at_place : List Press → ℕ → Press
 at_place es i = get_or es i (record { state = 0; event = 0 })
 
-module _ (t : Table) (es : List Entry) (i : ℕ) where
+module _ (t : Table) (es : List Press) (i : ℕ) where
   absent_step : (b : Bool) → i < length es → exists t (at_place es i) ≡ b → first_absent t (drop i es) ≡ cond b (suc (first_absent t (drop (i + 1) es))) 0
   absent_step b h x =
       let s : first_absent t (drop i es) ≡ cond (exists t (at_place es i)) (suc (first_absent t (drop (i + 1) es))) 0 = at_drop_more (first_absent t) es i (record { state = 0; event = 0 }) h in
@@ -27,7 +27,7 @@ module _ (t : Table) (es : List Entry) (i : ℕ) where
   pub absent_none : length es ≤ i → first_absent t (drop i es) ≡ 0
   absent_none h = at_drop_all (first_absent t) es i h
 
-module _ (f : Entry → List ℕ) (es : List Entry) (i : ℕ) where
+module _ (f : Press → List ℕ) (es : List Press) (i : ℕ) where
   pub joined_left : i < length es → flat_map f (drop i es) ≡ f (at_place es i) ++ flat_map f (drop (i + 1) es)
   joined_left h = at_drop_more (flat_map f) es i (record { state = 0; event = 0 }) h
 

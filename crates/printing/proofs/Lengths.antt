@@ -9,8 +9,8 @@ use Rattle.faults.specs.declared.Cause.{Cause}
 use Rattle.faults.specs.declared.Cause.TheVariants.{TextTooLong, UnexpectedByte, TextTooShort, TooManyOperators, FileTooShort, BadMark, BadRecord, TrailingBytes, NoSuchArgument, BadLeadIn, DrawingFull, AlreadyJoined, NotJoined, TooManyNodes, ListTooShort, NoStart}
 use Rattle.faults.specs.declared.Fault.{Fault}
 use Rattle.tables.specs.Table.{Table}
-use Rattle.unfolding.specs.declared.Entry.{Entry}
-use Rattle.faults.specs.Lassos.{bad_lead_in}
+use Rattle.unfolding.specs.declared.Press.{Press}
+use Rattle.judge.specs.Answer.{bad_lead_in}
 use Rattle.printing.specs.Refusal.{first_absent, no_such_entry, fault_of_entries}
 use Rattle.printing.specs.Text.{number_line, entry_line, text}
 use Rattle.printing.specs.declared.answer.Answer.TheVariants.{Holds, Refused, Broken}
@@ -49,12 +49,12 @@ refused_length names fault h =
     let line = number_line 82 (cause_number fault.cause) fault.place in
     omega (arith, m, n, number_length 82 (cause_number fault.cause) fault.place, length-append line [])
 
-entry_length : (names : ℕ → List ℕ) (e : Entry) → e.state < 65536 → length (names e.event) ≤ 8 → length (entry_line names e) ≤ 15
+entry_length : (names : ℕ → List ℕ) (e : Press) → e.state < 65536 → length (names e.event) ≤ 8 → length (entry_line names e) ≤ 15
 entry_length names e h k =
     omega (arith, length-decimal-le 5 e.state (lit< tt) (omega arith) (omega arith), length-append (decimal e.state) (32 ∷ (names e.event ++ (10 ∷ []))), length-append (names e.event) (10 ∷ []))
 
 module _ (names : ℕ → List ℕ) (brief : (e : ℕ) → length (names e) ≤ 8) where
-  entries_length : (es : List Entry) → ((i : ℕ) → i < length es → (at_place es i).state < 65536) → length (flat_map (entry_line names) es) ≤ 15 * length es
+  entries_length : (es : List Press) → ((i : ℕ) → i < length es → (at_place es i).state < 65536) → length (flat_map (entry_line names) es) ≤ 15 * length es
   entries_length [] h = omega arith
   entries_length (e ∷ es) h =
       let first = entry_length names e (h 0 (omega arith)) (brief e.event) in
@@ -62,14 +62,14 @@ module _ (names : ℕ → List ℕ) (brief : (e : ℕ) → length (names e) ≤ 
       omega (arith, first, rest, length-append (entry_line names e) (flat_map (entry_line names) es))
 
   -- entries with states below 65,536, and numbers of at most 10 digits
-  pub broken_length : (lead_in : ℕ) (entries : Bor (List Entry)) → ((i : ℕ) → i < length entries.now → (at_place entries.now i).state < 65536)
+  pub broken_length : (lead_in : ℕ) (entries : Bor (List Press)) → ((i : ℕ) → i < length entries.now → (at_place entries.now i).state < 65536)
       → lead_in < 10 ^ 10 → length entries.now < 10 ^ 10 → length (text names (Broken lead_in entries)) ≤ 24 + 15 * length entries.now
   broken_length lead_in entries h u n =
       let loop = length entries.now - lead_in in
       let line = number_line 66 lead_in loop in
       omega (arith, entries_length entries.now h, number_length 66 lead_in loop, length-decimal-le 10 lead_in (lit< tt) u (omega arith), length-decimal-le 10 loop (lit< tt) (omega arith) (omega arith), length-append line (flat_map (entry_line names) entries.now))
 
-first_existing : (t : Table) (e : Entry) (es : List Entry) → suc (length es) ≤ first_absent t (e ∷ es) → (e.state < t.states) × (length es ≤ first_absent t es)
+first_existing : (t : Table) (e : Press) (es : List Press) → suc (length es) ≤ first_absent t (e ∷ es) → (e.state < t.states) × (length es ≤ first_absent t es)
 first_existing t e es h = go (ltb e.state t.states) (ltb e.event t.events) refl h
   where
     go : (a b : Bool) → ltb e.state t.states ≡ a → suc (length es) ≤ cond (a && b) (suc (first_absent t es)) 0 → (e.state < t.states) × (length es ≤ first_absent t es)
@@ -78,13 +78,13 @@ first_existing t e es h = go (ltb e.state t.states) (ltb e.event t.events) refl 
     go false b x k = absurd (omega arith)
 
 -- where no entry is absent, each has a state of the table
-pub existing : (t : Table) (es : List Entry) → length es ≤ first_absent t es → (i : ℕ) → i < length es → (at_place es i).state < t.states
+pub existing : (t : Table) (es : List Press) → length es ≤ first_absent t es → (i : ℕ) → i < length es → (at_place es i).state < t.states
 existing t [] h i l = absurd (omega arith)
 existing t (e ∷ es) h zero l = (first_existing t e es h).0
 existing t (e ∷ es) h (suc i) l = existing t es (first_existing t e es h).1 i (omega arith)
 
 -- what an answer with no fault keeps
-pub unfaulted : (t : Table) (lead_in : ℕ) (es : List Entry) → fault_of_entries t lead_in es ≡ None → (lead_in < length es) × (length es ≤ first_absent t es)
+pub unfaulted : (t : Table) (lead_in : ℕ) (es : List Press) → fault_of_entries t lead_in es ≡ None → (lead_in < length es) × (length es ≤ first_absent t es)
 unfaulted t lead_in es e = go (ltb lead_in (length es)) (ltb (first_absent t es) (length es)) refl refl e
   where
     go : (a b : Bool) → ltb lead_in (length es) ≡ a → ltb (first_absent t es) (length es) ≡ b → cond a (cond b (Some (no_such_entry (first_absent t es))) None) (Some (bad_lead_in (length es))) ≡ None → (lead_in < length es) × (length es ≤ first_absent t es)

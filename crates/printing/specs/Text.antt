@@ -2,7 +2,7 @@
 use Rattle.std.specs.Prelude.{ℕ, ◌-◌, List, [], ◌∷◌, ◌++◌, length, decimal}
 use Rattle.std.specs.List.{flat_map}
 use Rattle.faults.specs.Numbers.{cause_number}
-use Rattle.unfolding.specs.declared.Entry.{Entry}
+use Rattle.unfolding.specs.declared.Press.{Press}
 use Rattle.printing.specs.declared.answer.Answer.{Answer}
 use Rattle.printing.specs.declared.answer.Answer.TheVariants.{Holds, Refused, Broken}
 
@@ -21,10 +21,10 @@ first_line (Refused fault) = number_line 82 (cause_number fault.cause) fault.pla
 first_line (Broken lead_in entries) = number_line 66 lead_in (length entries.now - lead_in)
 
 -- the state, and the name of the event
-abbrev pub entry_line : (ℕ → List ℕ) → Entry → List ℕ
+abbrev pub entry_line : (ℕ → List ℕ) → Press → List ℕ
 entry_line names entry = decimal entry.state ++ (32 ∷ (names entry.event ++ (10 ∷ [])))
 
-abbrev pub entries_of : Answer → List Entry
+abbrev pub entries_of : Answer → List Press
 entries_of Holds = []
 entries_of (Refused fault) = []
 entries_of (Broken lead_in entries) = entries.now

@@ -6,7 +6,7 @@ ghost use Rattle.printing.specs.Text.{first_line, entries_of, entry_line};
 use crate::line::Line;
 use dialogues::named::Named;
 use faults::Fault;
-use unfolding::Entry;
+use unfolding::Press;
 
 /// What a check of a rule comes to, for people to read.
 #[derive(Clone, Copy)]
@@ -18,7 +18,7 @@ pub enum Answer<'a> {
     /// These entries, a lead-in of so many and then a loop, break the rule.
     Broken {
         lead_in: usize,
-        entries: &'a [Entry],
+        entries: &'a [Press],
     },
 }
 
@@ -36,7 +36,7 @@ pub(crate) fn first_line(answer: Answer) -> Line
 }
 
 /// The entries of an answer; only a broken one has any.
-pub(crate) fn entries_of<'a>(answer: Answer<'a>) -> &'a [Entry]
+pub(crate) fn entries_of<'a>(answer: Answer<'a>) -> &'a [Press]
     ensures { result.now ≡ entries_of answer.entry }
 {
     match answer {
@@ -46,7 +46,7 @@ pub(crate) fn entries_of<'a>(answer: Answer<'a>) -> &'a [Entry]
 }
 
 /// The line of an entry.
-pub(crate) fn entry_line<D: Named>(entry: Entry, dialogue: &D) -> Line
+pub(crate) fn entry_line<D: Named>(entry: Press, dialogue: &D) -> Line
     ensures { held result ≡ entry_line (D.Named.names dialogue.now) entry }
 {
     let mut line = Line::new();

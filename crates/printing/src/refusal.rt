@@ -5,7 +5,7 @@ ghost use Rattle.printing.specs.Refusal.{first_absent, fault_of_entries, fault_o
 use crate::answer::Answer;
 use dialogues::named::Named;
 use faults::{Cause, Fault, Layer};
-use unfolding::Entry;
+use unfolding::Press;
 
 /// The fault of an answer, whatever the list it is to be printed into.
 pub(crate) fn fault_of<D: Named>(answer: Answer, dialogue: &D) -> Option<Fault>
@@ -17,7 +17,7 @@ pub(crate) fn fault_of<D: Named>(answer: Answer, dialogue: &D) -> Option<Fault>
     }
 }
 
-fn fault_of_entries<D: Named>(lead_in: usize, entries: &[Entry], dialogue: &D) -> Option<Fault>
+fn fault_of_entries<D: Named>(lead_in: usize, entries: &[Press], dialogue: &D) -> Option<Fault>
     ensures { result ≡ fault_of_entries (D.Dialogue.table dialogue.now) lead_in entries.now }
 {
     if lead_in >= entries.len() {
@@ -39,7 +39,7 @@ fn fault_of_entries<D: Named>(lead_in: usize, entries: &[Entry], dialogue: &D) -
 }
 
 /// The number of the first entry that does not exist in the dialogue, or the number of entries.
-fn first_absent<D: Named>(entries: &[Entry], dialogue: &D) -> usize
+fn first_absent<D: Named>(entries: &[Press], dialogue: &D) -> usize
     ensures { result ≡ first_absent (D.Dialogue.table dialogue.now) entries.now }
 {
     let states = dialogue.states();

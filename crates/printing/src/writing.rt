@@ -7,10 +7,10 @@ ghost use Rattle.printing.specs.Text.{entry_line};
 use crate::answer::entry_line;
 use crate::line::Line;
 use dialogues::named::Named;
-use unfolding::Entry;
+use unfolding::Press;
 
 /// Whether the lines of these entries need no more than so many bytes.
-pub(crate) fn entries_fit<D: Named>(entries: &[Entry], dialogue: &D, room: usize) -> bool
+pub(crate) fn entries_fit<D: Named>(entries: &[Press], dialogue: &D, room: usize) -> bool
     ensures { result ≡ nat_le (length (flat_map (entry_line (D.Named.names dialogue.now)) entries.now)) room }
 {
     let mut left = room;
@@ -26,7 +26,7 @@ pub(crate) fn entries_fit<D: Named>(entries: &[Entry], dialogue: &D, room: usize
 
 /// Writes the lines of these entries from the place `start` on, and answers the place behind them.
 pub(crate) fn put_entries<D: Named>(
-    entries: &[Entry],
+    entries: &[Press],
     dialogue: &D,
     out: &mut [u8],
     start: usize,

@@ -10,7 +10,7 @@ returns-then-left-count g c =
     let f = entry_line (g.D.Named.names c.args.dialogue.now) in
     let es = c.args.entries.now in
     let i = c.loop-entry.entry-index in
-    let n : length c.as-bytes-count.result.now ≡ length (f (at_place es i)) = ap length (c.as-bytes-count.ensures ∙ c.entry-line.ensures) in
+    let n : length c.as_bytes-count.result.now ≡ length (f (at_place es i)) = ap length (c.as_bytes-count.ensures ∙ c.entry_line.ensures) in
     lt-false (length (flat_map f es)) c.args.room (omega (arith, n, length_left f es i c.loop-entry-test.true, c.loop-entry.invariant, c.if-left-count.true))
 
 pub loop-entry-preserved : goal.loop-entry-preserved
@@ -18,7 +18,7 @@ loop-entry-preserved g c =
     let f = entry_line (g.D.Named.names c.args.dialogue.now) in
     let es = c.args.entries.now in
     let i = c.loop-entry.entry-index in
-    let n : length c.as-bytes-count.result.now ≡ length (f (at_place es i)) = ap length (c.as-bytes-count.ensures ∙ c.entry-line.ensures) in
+    let n : length c.as_bytes-count.result.now ≡ length (f (at_place es i)) = ap length (c.as_bytes-count.ensures ∙ c.entry_line.ensures) in
     omega (arith, n, length_left f es i c.loop-entry-test.true, c.loop-entry.invariant, c.if-left-count.false)
 
 pub returns : goal.returns

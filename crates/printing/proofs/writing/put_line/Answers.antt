@@ -6,9 +6,9 @@ pub returns : goal.returns
 returns c =
     let xs = c.args.out.now in
     let a = c.args.at in
-    let n = length c.as-bytes-bytes.result.now in
+    let n = length c.as_bytes-bytes.result.now in
     let k : a + (a + n - a) ≡ a + n = omega arith in
     record {
-      end = ap (λ (l : List ℕ). a + length l) c.as-bytes-bytes.ensures;
-      bytes = ap₂ (λ (l r : List ℕ). take a xs ++ (l ++ r)) (c.copy-from-slice.ensures.after ∙ c.as-bytes-bytes.ensures) (drop-drop (a + n - a) a xs ∙ ap (λ (m : ℕ). drop m xs) k);
+      end = ap (λ (l : List ℕ). a + length l) c.as_bytes-bytes.ensures;
+      bytes = ap₂ (λ (l r : List ℕ). take a xs ++ (l ++ r)) (c.copy_from_slice.ensures.after ∙ c.as_bytes-bytes.ensures) (drop-drop (a + n - a) a xs ∙ ap (λ (m : ℕ). drop m xs) k);
     }

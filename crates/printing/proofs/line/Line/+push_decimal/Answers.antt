@@ -8,7 +8,7 @@ use Rattle.printing.proofs.line.Line.+push_decimal.Goals as goal
 pub push-requires : goal.push-requires
 push-requires t c =
     let n = c.args.number in
-    omega (arith, few_digits n (omega arith), more_digits n c.if-number-ge10.true (omega arith), c.push-decimal.ensures.len)
+    omega (arith, few_digits n (omega arith), more_digits n c.if-number-ge10.true (omega arith), c.push_decimal.ensures.len)
 
 pub returns-then-number-ge10 : goal.returns-then-number-ge10
 returns-then-number-ge10 t c =
@@ -16,11 +16,11 @@ returns-then-number-ge10 t c =
     let h = held c.args.self.now in
     let last = (48 + n % 10) ∷ [] in
     record {
-      len = omega (arith, more_digits n c.if-number-ge10.true (omega arith), c.push-decimal.ensures.len, c.push.ensures.len);
+      len = omega (arith, more_digits n c.if-number-ge10.true (omega arith), c.push_decimal.ensures.len, c.push.ensures.len);
       few = few_digits n (omega arith);
       bytes =
           c.push.ensures.bytes
-          ∙ ap (λ (l : List ℕ). l ++ last) c.push-decimal.ensures.bytes
+          ∙ ap (λ (l : List ℕ). l ++ last) c.push_decimal.ensures.bytes
           ∙ append_assoc h (decimal (n / 10)) last
           ∙ ap (λ (l : List ℕ). h ++ l) (sym (decimal_step n c.if-number-ge10.true (omega arith)));
     }
