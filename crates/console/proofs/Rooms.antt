@@ -1,6 +1,6 @@
 -- Answers of a check exist in their dialogue, and the lists have room for their texts.
 use Rattle.std.proofs.Common.{◌≡◌, ℕ, suc, ◌+◌, ◌*◌, ◌<◌, ◌≤◌, ltb, List, [], ◌∷◌, ◌++◌, length, take, drop, Some, None, Ok, Option, sym, refl, ap, ◌∙◌, subst, ⊎_elim, arith, Bor}
-use Rattle.std.proofs.lemmas.List.{length-take-le, take_at}
+use Rattle.std.proofs.lemmas.List.{length-map, length-take-le, take_at}
 use Rattle.std.proofs.lemmas.Bool.{lt-ltb, le-ltb, cases_lt, and_from, cond-true, cond-false}
 use Rattle.faults.specs.declared.Fault.{Fault}
 use Rattle.formulas.specs.Formula.{Formula}
@@ -10,6 +10,7 @@ use Rattle.tables.specs.Table.{Table, Formed}
 use Rattle.loops.specs.Answer.{Startless}
 use Rattle.unfolding.specs.declared.Press.{Press}
 use Rattle.unfolding.specs.Breaks.{Breaks, LassoOf, state_at, event_at}
+use Rattle.unfolding.specs.Presses.{entry_of, entries_in}
 use Rattle.unfolding.specs.Nodes.{size}
 use Rattle.unfolding.specs.Pushed.{locations}
 use Rattle.printing.specs.declared.answer.Answer.{Answer}
@@ -36,8 +37,11 @@ printed_front None bytes out e h =
     ap (take (length bytes)) (cond-false (ltb (length out) (length bytes)) out (bytes ++ drop (length bytes) out) long) ∙ take_at bytes (drop (length bytes) out) (length bytes) refl
 printed_front (Some fault) bytes out e h = let clash : ◌≡◌ {A = ℕ} 0 1 = cc in absurd (omega arith)
 
+same_length : (es : List Press) → length (entries_in es) ≡ length es
+same_length es = length-map es entry_of
+
 -- entries whose events lead somewhere exist
-all_exist : (t : Table) (es : List Entry) → ((i : ℕ) → i < length es → (state_at es i < t.states) × (event_at es i < t.events)) → first_absent t es ≡ length es
+all_exist : (t : Table) (es : List Press) → ((i : ℕ) → i < length es → (state_at (entries_in es) i < t.states) × (event_at (entries_in es) i < t.events)) → first_absent t es ≡ length es
 all_exist t [] h = refl
 all_exist t (e ∷ es) h =
     let here = h 0 (omega arith) in
@@ -53,36 +57,41 @@ module _ (t : Table) (formed : Formed t) where
     ⊎_elim (λ l. l) (λ l. let none = formed.absent_event s e l in let clash : ◌≡◌ {A = ℕ} 0 1 = cc in absurd (omega arith)) (cases_lt e t.events),
   )
 
-  lasso_exists : (es : List Entry) (u : ℕ) → LassoOf t es u → first_absent t es ≡ length es
-  lasso_exists es u l = all_exist t es (λ i h. leads_existing (state_at es i) (event_at es i) (state_at es (after (length es) u i)) (l.presses i h))
+  lasso_exists : (es : List Press) (u : ℕ) → LassoOf t (entries_in es) u → first_absent t es ≡ length es
+  lasso_exists es u l =
+      let n = same_length es in
+      all_exist t es (λ i h. leads_existing (state_at (entries_in es) i) (event_at (entries_in es) i) (state_at (entries_in es) (after (length (entries_in es)) u i)) (l.presses i (omega arith)))
 
-  pub lasso_sound : (es : List Entry) (u : ℕ) → LassoOf t es u → fault_of_entries t u es ≡ None
+  pub lasso_sound : (es : List Press) (u : ℕ) → LassoOf t (entries_in es) u → fault_of_entries t u es ≡ None
   lasso_sound es u l =
       let all = lasso_exists es u l in
-      let inside = lt-ltb u (length es) l.within in
+      let n = same_length es in
+      let within = l.within in
+      let inside = lt-ltb u (length es) (omega arith) in
       let last = le-ltb (first_absent t es) (length es) (omega arith) in
       simp (inside, last)
 
-  lasso_room : (names : ℕ → List ℕ) → Brief names → (u : ℕ) (entries : Bor (List Entry)) → LassoOf t entries.now u → length entries.now ≤ 5120 → length (text names (Broken u entries)) ≤ 76824
+  lasso_room : (names : ℕ → List ℕ) → Brief names → (u : ℕ) (entries : Bor (List Press)) → LassoOf t (entries_in entries.now) u → length entries.now ≤ 5120 → length (text names (Broken u entries)) ≤ 76824
   lasso_room names brief u entries l h =
       let all = lasso_exists entries.now u l in
+      let n = same_length entries.now in
       let within = l.within in
       let few = formed.few_states in
       let long = broken_length names brief u entries (λ i k. let below = existing t entries.now (omega arith) i k in omega arith) (omega arith) (omega arith) in
       omega arith
 
-  module _ (f : Formula) (old new : List Entry) where
+  module _ (f : Formula) (old new : List Press) where
     pub held : (v : Verdict) → Decided t f old new v → Held v (length new)
     held verdict.Holds d = tt
     held (verdict.Broken l) d = d.within
 
-    lasso_of : (l : Lasso) (u : ℕ) (entries : Bor (List Entry)) → Written t f old new l.lead l.len → u ≡ l.lead → entries.now ≡ take l.len new → Breaks t f entries.now u
+    lasso_of : (l : Lasso) (u : ℕ) (entries : Bor (List Press)) → Written t f old new l.lead l.len → u ≡ l.lead → entries.now ≡ take l.len new → Breaks t f (entries_in entries.now) u
     lasso_of l u entries d e x =
-        let P : List Entry → Type 0 = λ es. Breaks t f es l.lead in
-        let Q : ℕ → Type 0 = λ lead. Breaks t f entries.now lead in
+        let P : List Press → Type 0 = λ es. Breaks t f (entries_in es) l.lead in
+        let Q : ℕ → Type 0 = λ lead. Breaks t f (entries_in entries.now) lead in
         subst Q (sym e) (subst P (sym x) d.breaks)
 
-    count_of : (l : Lasso) (entries : Bor (List Entry)) → Written t f old new l.lead l.len → entries.now ≡ take l.len new → length entries.now ≤ (locations f + 1) * size t f
+    count_of : (l : Lasso) (entries : Bor (List Press)) → Written t f old new l.lead l.len → entries.now ≡ take l.len new → length entries.now ≤ (locations f + 1) * size t f
     count_of l entries d x =
         let n : length entries.now ≡ length (take l.len new) = ap length x in
         let m = length-take-le l.len new d.within in

@@ -9,6 +9,7 @@ use Rattle.loops.specs.Answer.{Startless, no_start}
 use Rattle.search.specs.Results.{too_short}
 use Rattle.unfolding.specs.declared.Press.{Press}
 use Rattle.unfolding.specs.Breaks.{Breaks}
+use Rattle.unfolding.specs.Presses.{entries_in}
 use Rattle.unfolding.specs.Nodes.{size}
 use Rattle.unfolding.specs.Pushed.{locations}
 use Rattle.printing.specs.declared.answer.Answer.{Answer}
@@ -24,7 +25,7 @@ data Judged (t : Table) (f : Formula) : Answer → Type 0 where
   unserved : size t f ≤ 262144 → 512 < size t f → Judged t f (Refused (too_short 1))
   startless : size t f ≤ 512 → Startless t → Judged t f (Refused no_start)
   holds : size t f ≤ 512 → (Startless t → ⊥) → NeverBroken t f → Judged t f Holds
-  broken : (u : ℕ) (entries : Bor (List Entry)) → size t f ≤ 512 → (Startless t → ⊥) → Breaks t f entries.now u → Judged t f (Broken u entries)
+  broken : (u : ℕ) (entries : Bor (List Press)) → size t f ≤ 512 → (Startless t → ⊥) → Breaks t f (entries_in entries.now) u → Judged t f (Broken u entries)
 
 alike : (t : Table) (f : Formula) (x y : Answer) → Judged t f x → Judged t f y → Alike x y
 alike t f x y (too_large h) (too_large k) = refl
@@ -46,11 +47,11 @@ alike t f x y (holds h s n) (too_large k) = absurd (omega arith)
 alike t f x y (holds h s n) (unserved k l) = absurd (omega arith)
 alike t f x y (holds h s n) (startless k m) = s m
 alike t f x y (holds h s n) (holds k r m) = tt
-alike t f x y (holds h s n) (broken v later k r b) = n later.now v b
+alike t f x y (holds h s n) (broken v later k r b) = n (entries_in later.now) v b
 alike t f x y (broken u entries h s a) (too_large k) = absurd (omega arith)
 alike t f x y (broken u entries h s a) (unserved k l) = absurd (omega arith)
 alike t f x y (broken u entries h s a) (startless k m) = s m
-alike t f x y (broken u entries h s a) (holds k r m) = m entries.now u a
+alike t f x y (broken u entries h s a) (holds k r m) = m (entries_in entries.now) u a
 alike t f x y (broken u entries h s a) (broken v later k r b) = tt
 
 -- a right answer: the line is misread, or it is a rule

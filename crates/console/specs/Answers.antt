@@ -11,6 +11,7 @@ use Rattle.tables.specs.Layers.{barred}
 use Rattle.search.specs.Results.{too_short}
 use Rattle.unfolding.specs.declared.Press.{Press}
 use Rattle.unfolding.specs.Breaks.{Breaks}
+use Rattle.unfolding.specs.Presses.{entries_in}
 use Rattle.unfolding.specs.Nodes.{size}
 use Rattle.unfolding.specs.Pushed.{locations}
 use Rattle.printing.specs.declared.answer.Answer.{Answer}
@@ -33,7 +34,7 @@ pub data Right (t : Table) (line : List ℕ) : Answer → Type 0 where
   -- no lasso breaks the rule
   holds : (f : Formula) → reading.Accepted line f → size t f ≤ 512 → (Startless t → ⊥) → NeverBroken t f → Right t line Holds
   -- these entries with lead-in u break it
-  broken : (f : Formula) (u : ℕ) (entries : Bor (List Entry)) → reading.Accepted line f → size t f ≤ 512 → (Startless t → ⊥) → Breaks t f entries.now u
+  broken : (f : Formula) (u : ℕ) (entries : Bor (List Press)) → reading.Accepted line f → size t f ≤ 512 → (Startless t → ⊥) → Breaks t f (entries_in entries.now) u
       → length entries.now ≤ (locations f + 1) * size t f → Right t line (Broken u entries)
 
 -- the text of a right answer to the line, with these names of events

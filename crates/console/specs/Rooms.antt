@@ -25,7 +25,7 @@ Held verdict.Holds n = Unit {0}
 Held (verdict.Broken l) n = l.len ≤ n
 
 -- a verdict as an answer
-abbrev pub Tells : Verdict → List Entry → Answer → Type 0
+abbrev pub Tells : Verdict → List Press → Answer → Type 0
 Tells verdict.Holds entries Holds = Unit {0}
 Tells verdict.Holds entries (Refused fault) = ⊥
 Tells verdict.Holds entries (Broken u found) = ⊥

@@ -47,7 +47,7 @@ pub(crate) fn put_refusal<D: Named>(fault: Fault, dialogue: &D, out: &mut [u8]) 
 }
 
 /// A verdict as an answer, with the entries that break the rule.
-fn answer_of<'a>(verdict: Verdict, presses: &'a [Entry]) -> Answer<'a>
+fn answer_of<'a>(verdict: Verdict, presses: &'a [Press]) -> Answer<'a>
     requires { Held verdict (length presses.now) }
     ensures { Tells verdict presses.now result }
 {
@@ -68,7 +68,7 @@ fn answer_rule<D: Named>(
     slots: &mut [Slot],
     trail: &mut [Frame],
     roots: &mut [Root],
-    presses: &mut [Entry],
+    presses: &mut [Press],
     out: &mut [u8],
 ) -> usize
     requires brief { Brief (D.Named.names dialogue.now) }
@@ -90,7 +90,7 @@ pub(crate) fn answer_line<D: Named>(
     slots: &mut [Slot],
     trail: &mut [Frame],
     roots: &mut [Root],
-    presses: &mut [Entry],
+    presses: &mut [Press],
     out: &mut [u8],
 ) -> usize
     requires brief { Brief (D.Named.names dialogue.now) }

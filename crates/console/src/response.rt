@@ -10,11 +10,11 @@ use crate::answers::{answer_line, put_refusal};
 use crate::lines::line_end;
 use dialogues::bar::Bar;
 use dialogues::named::Named;
-use faults::Fault;
 use drawings::checks::check_file;
 use drawings::file::File;
-use std::alloc::{AllocError, Global};
+use faults::Fault;
 use search::{Frame, Root, Slot};
+use std::alloc::{AllocError, Global};
 use unfolding::Press;
 
 /// How many bytes of the file, and of the input, count.
@@ -60,7 +60,7 @@ fn answer_lines<D: Named>(
     slots: &mut [Slot],
     trail: &mut [Frame],
     roots: &mut [Root],
-    presses: &mut [Entry],
+    presses: &mut [Press],
     text: &mut [u8],
 ) -> Result<Vec<u8>, AllocError>
     requires brief { Brief (D.Named.names dialogue.now) }
@@ -97,7 +97,7 @@ fn respond_to<D: Named>(heap: Global, dialogue: &D, input: &[u8]) -> Result<Vec<
     let mut slots = vec![in heap; Slot::default(); NODES]?;
     let mut trail = vec![in heap; Frame::default(); NODES]?;
     let mut roots = vec![in heap; Root::default(); NODES]?;
-    let mut presses = vec![in heap; Entry::default(); PRESSES]?;
+    let mut presses = vec![in heap; Press::default(); PRESSES]?;
     let mut text = vec![in heap; 0; TEXT]?;
     answer_lines(
         heap,

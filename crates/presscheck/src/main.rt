@@ -1,5 +1,7 @@
 //! presscheck: reads each line of standard input as a rule, checks it against the dialogue of the file `dialogue.bin`, and prints the
 //! answer. What it prints for the bytes that it reads is `console::respond`.
+#![tactic(auto)]
+
 use console::respond;
 use std::fs::File;
 use std::io;

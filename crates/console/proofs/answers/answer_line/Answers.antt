@@ -5,10 +5,10 @@ use Rattle.console.proofs.answers.answer_line.Goals as goal
 pub returns-in-Err : goal.returns-in-Err
 returns-in-Err g c =
     record {
-      within = c.put-refusal.ensures.within;
+      within = c.put_refusal.ensures.within;
       text = record {
         answer = Refused c.in-Err.fault;
         right = misread c.in-Err.fault c.in-Err.ensures;
-        printed = c.put-refusal.ensures.bytes;
+        printed = c.put_refusal.ensures.bytes;
       };
     }

@@ -6,8 +6,8 @@ use Rattle.printing.specs.Refusal.{fault_of}
 use Rattle.printing.proofs.Lengths.{refused_length}
 use Rattle.console.proofs.answers.put_refusal.Goals as goal
 
-pub put-answer-requires : goal.put-answer-requires
-put-answer-requires g c =
+pub put_answer-requires : goal.put_answer-requires
+put_answer-requires g c =
     let names = g.D.Named.names c.args.dialogue.now in
     let fits : c.args.fault.place < 2 ^ 64 = search rules in
     let short = refused_length names c.args.fault fits in

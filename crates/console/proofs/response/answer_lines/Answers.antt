@@ -9,8 +9,8 @@ loop-at-preserved g c =
     let names = g.D.Named.names c.args.dialogue.now in
     let input = c.args.input.now in
     let at = c.loop-at.at in
-    answers_more t names input (take (length input - at) (drop at input)) at c.line-end-end.result (vec_items c.loop-at.out) (vec_items c.extend-from-slice.new.self) (take c.answer-line-count.result c.answer-line-count.new.out) (take_rest input at)
-    c.line-end-end.ensures.first c.answer-line-count.ensures.text c.in-ok-extend-from-slice.ensures.items c.loop-at.invariant
+    answers_more t names input (take (length input - at) (drop at input)) at c.line_end-end.result (vec_items c.loop-at.out) (vec_items c.extend_from_slice.new.self) (take c.answer_line-count.result c.answer_line-count.new.out) (take_rest input at)
+    c.line_end-end.ensures.first c.answer_line-count.ensures.text c.in_ok-extend_from_slice.ensures.items c.loop-at.invariant
 
 pub returns : goal.returns
 returns g c =
