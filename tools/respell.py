@@ -12,8 +12,21 @@ import re
 import sys
 
 CRATES = "crates"
-# where the plain respelling falls together with another name in one file
-OTHER = {}
+# names that the rule for dashes does not reach: variables of patterns, and words of the older library
+OTHER = {
+    "no-begin": "no_begin",
+    "not-here": "not_here",
+    "some-open": "some_open",
+    "yes-one": "yes_one",
+    "getD_same": "get_or_same",
+    "getD_byte_labels": "get_or_byte_labels",
+}
+# facts that were spelled as words: each is turned in its module and where it is imported from there
+FACTS = {
+    ("Rattle.rules.specs.Reading", "has_part"): "HasPart",
+    ("Rattle.tables.specs.Table", "leads"): "Leads",
+    ("Rattle.tables.specs.Files", "marked"): "Marked",
+}
 
 NAME = r"[^\s(){}\[\].,;:=λ→×∙≡\"|]+"
 TOKEN = re.compile(NAME)
@@ -79,7 +92,7 @@ def declared():
             for pattern in (LET, BINDER, LAMBDA, ALIAS):
                 for m in pattern.finditer(line):
                     found.update(m.group(1).split())
-    return {n for n in found if is_ours(n)}, goals
+    return {n for n in found if is_ours(n)} | set(OTHER), goals
 
 
 IMPORTED = re.compile(r"^\s*(?:ghost )?use (?:Rattle\.(?P<crate>[a-z_]+)|(?P<lib>[A-Za-z]+))\S*?\.\{(?P<names>[^}]*)\}")
@@ -141,6 +154,16 @@ def turned(path, text, ours, goals, crates):
     return "\n".join(out)
 
 
+def facts(path, text):
+    for (module, old), new in FACTS.items():
+        home = os.path.join(CRATES, *module.split(".")[1:]) + ".antt"
+        if path != home and not re.search(re.escape(module) + r"\.\{[^}]*\b" + old + r"\b", text):
+            continue
+        word = re.compile(r"(?<![\w'-])" + old + r"(?![\w'-])")
+        text = "\n".join(word.sub(new, line) if turns else line for line, turns in pieces(path, text))
+    return text
+
+
 def main():
     crates = {c for c in os.listdir(CRATES)}
     ours, goals = declared()
@@ -162,7 +185,7 @@ def main():
         return
     for path in files():
         text = read(path)
-        new = turned(path, text, ours, goals, crates)
+        new = facts(path, turned(path, text, ours, goals, crates))
         if new != text:
             with open(path, "w", encoding="utf-8") as f:
                 f.write(new)

@@ -22,14 +22,14 @@ length_byte_labels [] = refl
 length_byte_labels (low ∷ []) = refl
 length_byte_labels (low ∷ high ∷ rest) = let ih = length_byte_labels rest in omega arith
 
-pub getD_byte_labels : (bs : List ℕ) (i : ℕ) → i < length bs / 2 → get_or (byte_labels bs) i 0 ≡ get_or bs (2 * i) 0 + 256 * get_or bs (2 * i + 1) 0
-getD_byte_labels [] i l = absurd (omega arith)
-getD_byte_labels (low ∷ []) i l = absurd (omega arith)
-getD_byte_labels (low ∷ high ∷ rest) zero l = refl
-getD_byte_labels (low ∷ high ∷ rest) (suc i) l =
+pub get_or_byte_labels : (bs : List ℕ) (i : ℕ) → i < length bs / 2 → get_or (byte_labels bs) i 0 ≡ get_or bs (2 * i) 0 + 256 * get_or bs (2 * i + 1) 0
+get_or_byte_labels [] i l = absurd (omega arith)
+get_or_byte_labels (low ∷ []) i l = absurd (omega arith)
+get_or_byte_labels (low ∷ high ∷ rest) zero l = refl
+get_or_byte_labels (low ∷ high ∷ rest) (suc i) l =
     let a : 2 * suc i ≡ suc (suc (2 * i)) = omega arith in
     let b : 2 * suc i + 1 ≡ suc (suc (2 * i + 1)) = omega arith in
-    rw (b, a) (getD_byte_labels rest i (omega arith))
+    rw (b, a) (get_or_byte_labels rest i (omega arith))
 
 pub byte_labels_past : (bs : List ℕ) (i : ℕ) → length bs / 2 ≤ i → 0 ≡ get_or (byte_labels bs) i 0
 byte_labels_past bs i l = let e = length_byte_labels bs in sym (get_or_past (byte_labels bs) i 0 (omega arith))

@@ -77,7 +77,7 @@ pub reducing_start : (c : ℕ) (r : Reader) (n : ℕ) → Tables r n → 0 < r.c
 reducing_start c r n t s = record { tables = t; some = s; value = refl; located = refl; mode = refl; temporals = refl }
 
 pub reducing_step : (c : ℕ) (r : Reader) (n : ℕ) (q : Reader) → n ≤ 128 → Reducing c r n q → 0 < q.depth → c < binds (top_frame q) → Reducing c r n (applied q)
-reducing_step c r n q short h some-open k =
+reducing_step c r n q short h some_open k =
     let t = h.tables in
     let P = parts_of q in
     let F = frames_of (less_frame q) in
@@ -86,7 +86,7 @@ reducing_step c r n q short h some-open k =
     let pl = t.parts_length in
     let fl = t.frames_length in
     let n1 : length P ≡ q.count = parts_count q (omega arith) in
-    let f : frames_of q ≡ F ++ (x ∷ []) = frames_less q some-open (omega arith) in
+    let f : frames_of q ≡ F ++ (x ∷ []) = frames_less q some_open (omega arith) in
     let fit : Fitting P (F ++ (x ∷ [])) = rw f at t.fitting in
     let some : 0 < length P = omega (arith, h.some) in
     let takes : 0 < binds x = omega arith in
@@ -116,11 +116,11 @@ reduced_none c r n q h k =
     reduced_from c r n q h (rw s (omega arith))
 
 pub reduced_stop : (c : ℕ) (r : Reader) (n : ℕ) (q : Reader) → n ≤ 128 → Reducing c r n q → 0 < q.depth → binds (top_frame q) ≤ c → Reduced c r n q
-reduced_stop c r n q short h some-open k =
+reduced_stop c r n q short h some_open k =
     let t = h.tables in
     let room = t.room in
     let fl = t.frames_length in
-    let f : frames_of q ≡ frames_of (less_frame q) ++ (top_frame q ∷ []) = frames_less q some-open (omega arith) in
+    let f : frames_of q ≡ frames_of (less_frame q) ++ (top_frame q ∷ []) = frames_less q some_open (omega arith) in
     let s = ap (stack (parts_of q)) f ∙ stack_push (formulas (parts_of q)) [] (frames_of (less_frame q)) (top_frame q) in
     let b = bound_is (formulas (parts_of q)) (top_frame q) in
     let e : bound_top (stack (parts_of q) (frames_of q)) ≡ binds (top_frame q) = ap bound_top s ∙ b in

@@ -46,9 +46,9 @@ reads_begins : (text : List ℕ) (f : Formula) → Reads text f → Begins text
 reads_begins text f x = ([], f, subst (λ (t : List ℕ). Reads t f) (sym (Rattle.std.proofs.lemmas.List.append-nil text)) x)
 
 -- an accepted text is not refused
-not_both : (text : List ℕ) (f : Formula) (x : Fault) → Accepted text f → Refused text x → ⊥
+pub not_both : (text : List ℕ) (f : Formula) (x : Fault) → Accepted text f → Refused text x → ⊥
 not_both text f x a (too_long h) = let s = a.short in omega arith
-not_both text f x a (unexpected p s l t b no-begin) = no-begin (begins_text text (suc p) (reads_begins text f a.reads))
+not_both text f x a (unexpected p s l t b no_begin) = no_begin (begins_text text (suc p) (reads_begins text f a.reads))
 not_both text f x a (too_many p s l t u b) = let k = a.few in let m = temporals_text text (suc p) in omega arith
 not_both text f x a (too_short s t b no_rule) = no_rule f a.reads
 

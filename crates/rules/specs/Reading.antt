@@ -85,10 +85,10 @@ lefts_within n [] = true
 lefts_within n (x ∷ xs) = cond (left_within n x) (lefts_within n xs) false
 
 -- after an operand there is a part
-abbrev pub has_part : Mode → ℕ → Type 0
-has_part Wanting n = Unit {0}
-has_part Having n = 0 < n
-has_part Dashed n = 0 < n
+abbrev pub HasPart : Mode → ℕ → Type 0
+HasPart Wanting n = Unit {0}
+HasPart Having n = 0 < n
+HasPart Dashed n = 0 < n
 
 -- parts and frames that fit together
 pub record Fitting (ps : List Part) (fs : List Frame) : Type 0 where
@@ -106,7 +106,7 @@ pub record Tables (r : Reader) (n : ℕ) : Type 0 where
 pub record Sane (r : Reader) (n : ℕ) : Type 0 where
   pub tables : Tables r n
   pub short : n ≤ 128
-  pub part : has_part r.mode r.count
+  pub part : HasPart r.mode r.count
   pub numbered : mode_locations (parts_of r) (frames_of r) r.mode ≡ counted_from 1 r.temporals
   pub nine : r.temporals ≤ 9
 

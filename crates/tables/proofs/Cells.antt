@@ -48,19 +48,19 @@ pub fit_set : (labels : List ℕ) (i label : ℕ) → i < length labels → labe
 fit_set labels i label h new fit s =
     elim (cases_eq s i) [ inl e ↦ rw e (rw (get_or-set_same labels i label 0 h) new) | inr ne ↦ rw (get_or-set_other labels i s label 0 ne) (fit s) ]
 
-pub getD_same : {X : Type 0} (n i : ℕ) (d : X) → get_or (replicate n d) i d ≡ d
-getD_same zero i d = refl
-getD_same (suc n) zero d = refl
-getD_same (suc n) (suc i) d = getD_same n i d
+pub get_or_same : {X : Type 0} (n i : ℕ) (d : X) → get_or (replicate n d) i d ≡ d
+get_or_same zero i d = refl
+get_or_same (suc n) zero d = refl
+get_or_same (suc n) (suc i) d = get_or_same n i d
 
 -- no states, however long the lists are
 pub blanks : (starts : List Bool) (labels : List ℕ) (n : ℕ) → cells 0 starts labels (replicate n None) ≡ blank
 blanks starts labels n =
     same_tables (cells 0 starts labels (replicate n None)) blank refl refl (λ s. grind (arith, nat_tests)) (λ s. grind (arith, nat_tests))
-    (λ s e. cond_both (ltb e 16) (get_or (replicate n None) (s * 16 + e) None) None (λ o. o ≡ None) (λ _. getD_same n (s * 16 + e) None) (λ _. refl))
+    (λ s e. cond_both (ltb e 16) (get_or (replicate n None) (s * 16 + e) None) None (λ o. o ≡ None) (λ _. get_or_same n (s * 16 + e) None) (λ _. refl))
 
 pub blank_within : (n : ℕ) → Within 0 (replicate n None)
-blank_within n k t is = let z : ◌≡◌ {A = ℕ} 0 1 = cc (getD_same {X = Option ℕ} n k None) in absurd (omega arith)
+blank_within n k t is = let z : ◌≡◌ {A = ℕ} 0 1 = cc (get_or_same {X = Option ℕ} n k None) in absurd (omega arith)
 
 -- A table of at most 64 states and 16 events, copied answer by answer.
 module _ (t : Table) (f : Formed t) (starts : List Bool) (labels : List ℕ) (next : List (Option ℕ)) (few : t.states ≤ 64) (events : t.events ≡ 16) (long : length next ≡ 1024) (same : Copied t next) where

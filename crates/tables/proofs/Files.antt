@@ -3,7 +3,7 @@ use Rattle.std.proofs.Common.{◌≡◌, ℕ, zero, suc, ◌+◌, ◌-◌, ◌*�
 use native.Mathlib.Decide.{dec_lt}
 use Rattle.std.proofs.lemmas.Bool.Decides.{nat_tests}
 use Rattle.std.proofs.lemmas.Bool.{cond-true, cond-false, cases_Bool, leb-true, le-leb, le-ltb, ltb-true, lt-ltb, eqb-true, eqb-false, and_parts, and_from, or_cases, or_right, eq-eqb, ne_eqb}
-use Rattle.tables.specs.Files.{byte, file_states, file_events, state_place, press_place, press_from, press_event, press_to, press_key, marked, Layout, mark_wrong, whole_fault, header_fault, state_fault, states_fault, is_end, press_allowed, place_fault, tail_fault, fault_of}
+use Rattle.tables.specs.Files.{byte, file_states, file_events, state_place, press_place, press_from, press_event, press_to, press_key, Marked, Layout, mark_wrong, whole_fault, header_fault, state_fault, states_fault, is_end, press_allowed, place_fault, tail_fault, fault_of}
 use Rattle.tables.proofs.Checks.{other_none, other_skip, unless_none, whole, state_whole, press_whole, place_whole}
 
 -- a mark that is there, and right
@@ -14,7 +14,7 @@ right_mark bytes at p q e h = (grind (arith, nat_tests), second (eqb (byte bytes
     second true is = inl (eqb-true _ _ is)
     second false is = inr (grind (arith, nat_tests))
 
-same_mark : (bytes : List ℕ) (at p : ℕ) → mark_wrong bytes at p p ≡ false → at + 2 ≤ length bytes → marked bytes at p
+same_mark : (bytes : List ℕ) (at p : ℕ) → mark_wrong bytes at p p ≡ false → at + 2 ≤ length bytes → Marked bytes at p
 same_mark bytes at p e h = let m = right_mark bytes at p p e h in (m.0, elim m.1 [ inl x ↦ x | inr x ↦ x ])
 
 marks_well : (bytes : List ℕ) (at p q : ℕ) → byte bytes at ≡ 68 → (byte bytes (at + 1) ≡ p) ⊎ (byte bytes (at + 1) ≡ q) → mark_wrong bytes at p q ≡ false
@@ -84,21 +84,21 @@ module _ (bytes : List ℕ) where
   states_room zero h e = omega arith
   states_room (suc i) h e = omega (arith, state_whole bytes (state_place i) (other_none (states_fault bytes i) _ e).1)
 
-  state_marked : (at : ℕ) → state_fault bytes at ≡ None → marked bytes at 83
+  state_marked : (at : ℕ) → state_fault bytes at ≡ None → Marked bytes at 83
   state_marked at e =
       let w = whole bytes at 83 83 5 (other_none _ _ e).0 in same_mark bytes at 83 w.0 (omega (arith, w.1))
 
   state_start : (at : ℕ) → state_fault bytes at ≡ None → byte bytes (at + 4) ≤ 1
   state_start at e = leb-true _ _ (unless_none _ _ (other_none _ _ e).1)
 
-  press_marked : (n m k : ℕ) → is_end bytes (press_place n k) ≡ false → place_fault bytes n m k ≡ None → marked bytes (press_place n k) 80
+  press_marked : (n m k : ℕ) → is_end bytes (press_place n k) ≡ false → place_fault bytes n m k ≡ None → Marked bytes (press_place n k) 80
   press_marked n m k on e =
       let f = press_whole bytes n m k on e in
       let w = whole bytes (press_place n k) 80 90 7 (other_none _ _ f.0).0 in
       let r = right_mark bytes (press_place n k) 80 90 w.0 (omega (arith, w.1)) in
       (r.0, elim r.1 [ inl x ↦ x | inr x ↦ absurd (eqb-false _ _ on x) ])
 
-  end_marked : (n m k : ℕ) → is_end bytes (press_place n k) ≡ true → place_fault bytes n m k ≡ None → marked bytes (press_place n k) 90
+  end_marked : (n m k : ℕ) → is_end bytes (press_place n k) ≡ true → place_fault bytes n m k ≡ None → Marked bytes (press_place n k) 90
   end_marked n m k end e =
       let w = whole bytes (press_place n k) 80 90 2 (sym (cond-true _ _ _ end) ∙ e) in
       let r = right_mark bytes (press_place n k) 80 90 w.0 w.1 in

@@ -5,7 +5,7 @@ use Rattle.std.proofs.lemmas.Bool.Decides.{nat_tests}
 use Rattle.std.proofs.lemmas.List.{ext_get_or}
 use Rattle.std.proofs.lemmas.Bool.{cond-true, lt-ltb}
 use Rattle.tables.specs.Table.{Table}
-use Rattle.tables.specs.Files.{byte, word, file_states, file_events, state_place, press_place, press_from, press_event, press_to, press_key, marked, Layout, found, filed, Ordered, Bytes, file_table, AcceptedByLayout, TablesTellFiles}
+use Rattle.tables.specs.Files.{byte, word, file_states, file_events, state_place, press_place, press_from, press_event, press_to, press_key, Marked, Layout, found, filed, Ordered, Bytes, file_table, AcceptedByLayout, TablesTellFiles}
 use Rattle.tables.proofs.Same.{some_same}
 use Rattle.tables.proofs.Files.{accepted_layout, layout_accepted}
 use Rattle.tables.proofs.Filed.{Listed, listed_from, found_at, layout_exist, layout_ordered, good_file}
@@ -146,7 +146,7 @@ module _ (a b : List ℕ) (fa : Bytes a) (fb : Bytes b) (n m p q : ℕ) (ya : La
 
   end_same : (r : ℕ) → r < 2 → Same (press_place n p + r)
   end_same r below =
-      let end : marked b (press_place n p) 90 = rw presses_same yb.end in
+      let end : Marked b (press_place n p) 90 = rw presses_same yb.end in
       let none : press_place n p + 0 ≡ press_place n p = omega arith in
       elim (dec_lt r 1) [
         | yes lt ↦ let is : r ≡ 0 = omega arith in rw (is, none) (ya.end.0 ∙ sym end.0)

@@ -48,25 +48,25 @@ press_key bytes at = press_from bytes at * 64 + press_event bytes at
 
 -- The layout: what a good file of n states, m events and p presses is.
 
-abbrev pub marked : List ℕ → ℕ → ℕ → Type 0
-marked bytes at letter = (byte bytes at ≡ 68) × (byte bytes (at + 1) ≡ letter)
+abbrev pub Marked : List ℕ → ℕ → ℕ → Type 0
+Marked bytes at letter = (byte bytes at ≡ 68) × (byte bytes (at + 1) ≡ letter)
 
 pub record Layout (bytes : List ℕ) (n m p : ℕ) : Type 0 where
   pub long : length bytes ≡ 7 + 5 * n + 7 * p
-  pub header : marked bytes 0 72
+  pub header : Marked bytes 0 72
   pub states_are : file_states bytes ≡ n
   pub events_are : file_events bytes ≡ m
   pub few_states : n ≤ 4096
   pub some_events : 0 < m
   pub few_events : m ≤ 64
-  pub state : (i : ℕ) → i < n → marked bytes (state_place i) 83
+  pub state : (i : ℕ) → i < n → Marked bytes (state_place i) 83
   pub start : (i : ℕ) → i < n → byte bytes (state_place i + 4) ≤ 1
-  pub press : (k : ℕ) → k < p → marked bytes (press_place n k) 80
+  pub press : (k : ℕ) → k < p → Marked bytes (press_place n k) 80
   pub from : (k : ℕ) → k < p → press_from bytes (press_place n k) < n
   pub event : (k : ℕ) → k < p → press_event bytes (press_place n k) < m
   pub to : (k : ℕ) → k < p → press_to bytes (press_place n k) < n
   pub rises : (k : ℕ) → suc k < p → press_key bytes (press_place n k) < press_key bytes (press_place n (suc k))
-  pub end : marked bytes (press_place n p) 90
+  pub end : Marked bytes (press_place n p) 90
 
 -- a file that the layout allows
 abbrev pub Allowed : List ℕ → Type 0

@@ -22,8 +22,8 @@ pub record Formed (table : Table) : Type 0 where
   pub absent_event : (s e : ℕ) → table.events ≤ e → table.next s e ≡ None
 
 -- A press: event e leads from state s to state t. Whatever is said of presses anywhere rests on this.
-abbrev pub leads : Table → ℕ → ℕ → ℕ → Type 0
-leads table s e t = table.next s e ≡ Some t
+abbrev pub Leads : Table → ℕ → ℕ → ℕ → Type 0
+Leads table s e t = table.next s e ≡ Some t
 
 -- m events and no states
 abbrev pub stateless : ℕ → Table

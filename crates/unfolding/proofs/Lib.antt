@@ -7,6 +7,9 @@ pub mod Turns
 pub mod Presses
 pub mod Sound
 pub mod Needs
+pub mod Chosen
+pub mod Entries
+pub mod Roots
 pub mod Repeats
 pub mod Canonical
 pub mod Complete
@@ -17,3 +20,4 @@ pub mod Flat
 pub mod Worked
 pub mod Mentions
 pub mod Seek
+pub mod Reached

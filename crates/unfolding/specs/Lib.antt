@@ -1,4 +1,5 @@
 pub mod Breaks
+pub mod Presses
 pub mod Pushed
 pub mod Nodes
 pub mod Law

@@ -1,0 +1,4 @@
+pub mod Sets
+pub mod Stepping
+pub mod Verdicts
+pub mod Endless

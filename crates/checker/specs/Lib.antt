@@ -1,0 +1,6 @@
+pub mod Presses
+pub mod Formed
+pub mod Marks
+pub mod Answer
+pub mod Endless
+pub mod Descriptions

@@ -1,0 +1,5 @@
+pub mod Splitting
+pub mod Serves
+pub mod Rooms
+pub mod Answering
+pub mod Unique

@@ -1,0 +1,6 @@
+pub mod Shifts
+pub mod Pushing
+pub mod Counting
+pub mod Seeking
+pub mod Filling
+pub mod Telling

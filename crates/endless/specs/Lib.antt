@@ -1,0 +1,3 @@
+pub mod Journeys
+pub mod Denied
+pub mod Law
