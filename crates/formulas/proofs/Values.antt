@@ -1,4 +1,4 @@
--- The values of a table of parts, as `values-on` makes them: a value stays as more parts follow, and in a sound table
+-- The values of a table of parts, as `values_on` makes them: a value stays as more parts follow, and in a sound table
 -- each is made from the values of the whole table.
 use Rattle.std.proofs.Common.{◌≡◌, ℕ, zero, suc, ◌+◌, ◌-◌, ◌<◌, ◌≤◌, Bool, true, false, cond, ltb, List, [], ◌∷◌, ◌++◌, length, get_or, sym, refl, ap, ◌∙◌, inl, inr, add-zero, zero-add, arith, length-append}
 use Rattle.std.proofs.lemmas.List.{get_or_append_left, get_or_at, get_or_past, length_push}

@@ -1,6 +1,6 @@
 -- A rule kept as a table of parts, with negation pushed down: a part of the table stands for one pushed part of either
 -- sign, at the locations that the table gives. A location's part is found by its number.
-use Rattle.std.specs.Prelude.{ℕ, Bool, false, cond, not, List, [], get_or, Some, None, Option, ◌==◌, slice_index_or}
+use Rattle.std.specs.Prelude.{ℕ, Bool, false, cond, not, List, [], Some, None, Option, ◌==◌, slice_index_or}
 use Rattle.formulas.specs.declared.Part.{Part as Row}
 use Rattle.formulas.specs.declared.Part.TheVariants.{Constant, Letter, Unary, Binary}
 use Rattle.formulas.specs.Table.{values_on}
@@ -13,8 +13,8 @@ nothing b = fixed false
 abbrev pub pushed_over : List (Bool → Part) → Row → Bool → Part
 pushed_over below (Constant c) b = fixed (cond b c (not c))
 pushed_over below (Letter a) b = literal b a
-pushed_over below (Unary op f location) b = prefix_pushed op b location (get_or below f nothing (under op b))
-pushed_over below (Binary op f g location) b = infix_pushed op b location (get_or below f nothing (left_of op b)) (get_or below g nothing b)
+pushed_over below (Unary op f location) b = prefix_pushed op b location (slice_index_or below f nothing (under op b))
+pushed_over below (Binary op f g location) b = infix_pushed op b location (slice_index_or below f nothing (left_of op b)) (slice_index_or below g nothing b)
 
 abbrev pub pushed_parts : List Row → List (Bool → Part)
 pushed_parts rows = values_on pushed_over [] rows

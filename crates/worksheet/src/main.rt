@@ -1,5 +1,5 @@
 //! worksheet: each line of standard input is one call of the library, performed and printed with its answer.
-//! docs/WORKSHEET.md has the lines that it knows.
+//! docs/SPEC.md, section 16, has the lines that it knows.
 #![tactic(auto)]
 
 mod asked;

@@ -1,0 +1,52 @@
+//! The lists of a check.
+use checker::{Checked, check_pile, needs};
+use faults::Fault;
+use piles::pile::Pile;
+use rules::rule::Rule;
+use search::{Frame, Root, Slot};
+use std::alloc::{AllocError, Global};
+use unfolding::Press;
+
+/// The most nodes that a check serves. Past that it is refused, whatever the lists.
+const SERVED: usize = 262144;
+
+/// What a check answered, and how many nodes there were.
+#[derive(Clone, Copy)]
+pub struct Answer {
+    pub checked: Checked,
+    pub nodes: usize,
+}
+
+/// Checks a rule against a pile in lists of just the lengths that are needed.
+pub fn check_with_lists(
+    heap: Global,
+    pile: &Pile,
+    rule: &Rule,
+) -> Result<Result<Answer, Fault>, AllocError> {
+    let need = needs(pile, rule);
+    let (nodes, entries) = if need.nodes > SERVED {
+        (0, 0)
+    } else {
+        (need.nodes, need.presses)
+    };
+    let mut marks = vec![in heap; 0u8; nodes]?;
+    let mut slots = vec![in heap; Slot::default(); nodes]?;
+    let mut trail = vec![in heap; Frame::default(); nodes]?;
+    let mut roots = vec![in heap; Root::default(); nodes]?;
+    let mut presses = vec![in heap; Press::default(); entries]?;
+    match check_pile(
+        pile,
+        rule,
+        marks.as_mut_slice(),
+        slots.as_mut_slice(),
+        trail.as_mut_slice(),
+        roots.as_mut_slice(),
+        presses.as_mut_slice(),
+    ) {
+        Ok(checked) => Ok(Ok(Answer {
+            checked,
+            nodes: need.nodes,
+        })),
+        Err(fault) => Ok(Err(fault)),
+    }
+}
