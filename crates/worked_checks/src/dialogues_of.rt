@@ -4,7 +4,7 @@ use drawings::drawing::Drawing;
 use std::alloc::{AllocError, Global};
 
 /// A start with letter a and another state with letter b; Adult (1) leads from the first to the second, and Child (2) back.
-pub fn two_states() -> Drawing {
+pub(crate) fn two_states() -> Drawing {
     Drawing::from_calls(&[
         Call::Add(1, 1),
         Call::Add(2, 0),
@@ -14,7 +14,7 @@ pub fn two_states() -> Drawing {
 }
 
 /// The same, where Return (3) leads from the first state to itself. The last call is refused, and alters nothing.
-pub fn returning() -> Drawing {
+pub(crate) fn returning() -> Drawing {
     Drawing::from_calls(&[
         Call::Add(1, 1),
         Call::Add(2, 0),
@@ -26,7 +26,7 @@ pub fn returning() -> Drawing {
 }
 
 /// Two states without the way by Adult.
-pub fn cut_off() -> Drawing {
+pub(crate) fn cut_off() -> Drawing {
     Drawing::from_calls(&[
         Call::Add(1, 1),
         Call::Add(2, 0),
@@ -37,7 +37,7 @@ pub fn cut_off() -> Drawing {
 }
 
 /// The file of a dialogue with so many states, each a start without letters, with one event that leads nowhere.
-pub fn file_of(heap: Global, states: u16) -> Result<Vec<u8>, AllocError> {
+pub(crate) fn file_of(heap: Global, states: u16) -> Result<Vec<u8>, AllocError> {
     let mut bytes = Vec::new(heap);
     bytes.extend_from_slice(b"DH")?;
     bytes.push((states % 256) as u8)?;

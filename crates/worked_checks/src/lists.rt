@@ -12,13 +12,13 @@ const SERVED: usize = 262144;
 
 /// What a check answered, and how many nodes there were.
 #[derive(Clone, Copy)]
-pub struct Answer {
+pub(crate) struct Answer {
     pub checked: Checked,
     pub nodes: usize,
 }
 
 /// Checks a rule against a pile in lists of just the lengths that are needed.
-pub fn check_with_lists(
+pub(crate) fn check_with_lists(
     heap: Global,
     pile: &Pile,
     rule: &Rule,
