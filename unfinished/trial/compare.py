@@ -307,7 +307,7 @@ def lengths(cases, all_answers, tally):
 
 def own_lines(program, tally):
     """The lines that the crate keeps, answered by the program and by the model."""
-    path = os.path.join(os.path.dirname(os.path.abspath(__file__)), '..', 'crates', 'worksheet', 'stdin')
+    path = os.path.join(os.path.dirname(os.path.abspath(__file__)), '..', '..', 'crates', 'worksheet', 'stdin')
     with open(path, encoding='latin-1', newline='') as file:
         lines = file.read().removesuffix('\n').split('\n')
     sheet = Sheet()

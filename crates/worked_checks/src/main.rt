@@ -1,4 +1,4 @@
-//! worked_checks: the worked examples of the check. Each dialogue is built as a pile at run time, checked, and its verdict printed.
+//! worked_checks: worked examples of the check, and a free dialogue. Each is built as a pile at run time, checked, and its verdict printed.
 #![tactic(auto)]
 
 mod dialogues_of;
