@@ -1,6 +1,5 @@
 pub mod Presses
 pub mod Formed
-pub mod Marks
 pub mod Answer
 pub mod Endless
 pub mod Descriptions

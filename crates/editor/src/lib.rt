@@ -1,5 +1,5 @@
-//! What an editor written in C calls: rule texts read, and journeys judged, with one number as the answer. The header
-//! is `include/presscheck.h`. Nothing here allocates, and the search is not part of it.
+//! What an editor written in C calls, by way of `editor_c`: rule texts read, and journeys judged, with one number as the answer. Nothing
+//! here allocates, and the search is not part of it.
 #![tactic(auto)]
 
 ghost use Rattle.std.specs.Prelude.{◌≡◌, ◌<◌, false, length, is_ok};
@@ -11,8 +11,7 @@ use judge::labels::LabelBytes;
 use rules::read;
 
 /// Reads a rule text. 1 for a rule; else the refusal, as cause * 65,536 + place.
-#[unsafe(no_mangle)]
-pub extern "C" fn presscheck_read(text: &[u8]) -> u32
+pub fn presscheck_read(text: &[u8]) -> u32
     ensures { ReadNumber text.now result }
 {
     match read(text) {
@@ -23,13 +22,7 @@ pub extern "C" fn presscheck_read(text: &[u8]) -> u32
 
 /// Judges a journey by a rule text. The labels are two bytes each, the least first, and an odd last byte does not
 /// count. 1 for true, 0 for false; else the refusal, as cause * 65,536 + place: the text's first, then the judge's.
-#[unsafe(no_mangle)]
-pub extern "C" fn presscheck_judge(
-    text: &[u8],
-    labels: &[u8],
-    lead_in: usize,
-    work: &mut [u8],
-) -> u32
+pub fn presscheck_judge(text: &[u8], labels: &[u8], lead_in: usize, work: &mut [u8]) -> u32
     ensures answer { JudgeNumber text.now labels.now lead_in (length work.old) result }
     ensures unchanged { 1 < result → work.new ≡ work.old }
 {
