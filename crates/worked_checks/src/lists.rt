@@ -7,9 +7,6 @@ use search::{Frame, Root, Slot};
 use std::alloc::{AllocError, Global};
 use unfolding::Press;
 
-/// The most nodes that a check serves. Past that it is refused, whatever the lists.
-const SERVED: usize = 262144;
-
 /// What a check answered, and how many nodes there were.
 #[derive(Clone, Copy)]
 pub(crate) struct Answer {
@@ -24,16 +21,11 @@ pub(crate) fn check_with_lists(
     rule: &Rule,
 ) -> Result<Result<Answer, Fault>, AllocError> {
     let need = needs(pile, rule);
-    let (nodes, entries) = if need.nodes > SERVED {
-        (0, 0)
-    } else {
-        (need.nodes, need.presses)
-    };
-    let mut marks = vec![in heap; 0u8; nodes]?;
-    let mut slots = vec![in heap; Slot::default(); nodes]?;
-    let mut trail = vec![in heap; Frame::default(); nodes]?;
-    let mut roots = vec![in heap; Root::default(); nodes]?;
-    let mut presses = vec![in heap; Press::default(); entries]?;
+    let mut marks = vec![in heap; 0u8; need.nodes]?;
+    let mut slots = vec![in heap; Slot::default(); need.nodes]?;
+    let mut trail = vec![in heap; Frame::default(); need.nodes]?;
+    let mut roots = vec![in heap; Root::default(); need.nodes]?;
+    let mut presses = vec![in heap; Press::default(); need.presses]?;
     match check_pile(
         pile,
         rule,
