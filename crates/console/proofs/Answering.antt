@@ -1,7 +1,7 @@
 -- Answers line by line, and what is printed for a file.
-use Rattle.std.proofs.Common.{◌≡◌, ℕ, ◌+◌, ◌≤◌, Bool, true, false, cond, ltb, List, [], ◌∷◌, ◌++◌, length, take, drop, Some, None, Ok, Err, decimal, Option, sym, refl, ap, ◌∙◌, subst, arith, lit<}
+use Rattle.std.proofs.Common.{◌≡◌, ℕ, ◌≤◌, Bool, true, false, cond, ltb, List, [], ◌∷◌, ◌++◌, length, take, Some, None, Ok, Err, decimal, Option, sym, refl, ap, ◌∙◌, subst, arith, lit<}
 use Rattle.std.proofs.lemmas.Fmt.{length-decimal-le}
-use Rattle.std.proofs.lemmas.List.{append_assoc, append-nil, drop-drop, drop_all}
+use Rattle.std.proofs.lemmas.List.{append_assoc, append-nil}
 use Rattle.std.proofs.lemmas.Bool.{ltb-true}
 use Rattle.faults.specs.declared.Fault.{Fault}
 use Rattle.tables.specs.Table.{Table}
@@ -13,27 +13,19 @@ use Rattle.console.specs.Answers.{AnswersLine, Answers, no_lines, line_by_line, 
 use Rattle.console.specs.Lines.{lines_of}
 use Rattle.console.specs.Rooms.{Brief}
 
--- one line more, from what is left of the input
-pub answers_more : (t : Table) (names : ℕ → List ℕ) (input left : List ℕ) (at end : ℕ) (out out' bytes : List ℕ) → left ≡ drop at input
-    → lines_of left ≡ take end left ∷ lines_of (drop (end + 1) left) → AnswersLine t names (take end left) bytes → out' ≡ out ++ bytes
-    → ((rest : List ℕ) → Answers t names (lines_of (drop at input)) rest → Answers t names (lines_of input) (out ++ rest))
-    → (rest : List ℕ) → Answers t names (lines_of (drop (at + (end + 1)) input)) rest → Answers t names (lines_of input) (out' ++ rest)
-answers_more t names input left at end out out' bytes is first right e so_far rest later =
-    let P : List ℕ → Type 0 = λ l. Answers t names (lines_of l) rest in
-    let Q : List (List ℕ) → Type 0 = λ ls. Answers t names ls (bytes ++ rest) in
-    let R : List ℕ → Type 0 = λ l. Answers t names (lines_of input) l in
-    let behind : drop (at + (end + 1)) input ≡ drop (end + 1) left = sym (drop-drop (end + 1) at input) ∙ ap (drop (end + 1)) (sym is) in
-    let here = line_by_line (take end left) (lines_of (drop (end + 1) left)) bytes rest right (subst P behind later) in
+-- one line more
+pub answers_more : (t : Table) (names : ℕ → List ℕ) (all left later : List (List ℕ)) (line out out' bytes : List ℕ) → left ≡ line ∷ later → AnswersLine t names line bytes → out' ≡ out ++ bytes
+    → ((rest : List ℕ) → Answers t names left rest → Answers t names all (out ++ rest)) → (rest : List ℕ) → Answers t names later rest → Answers t names all (out' ++ rest)
+answers_more t names all left later line out out' bytes first right e so_far rest others =
+    let P : List (List ℕ) → Type 0 = λ ls. Answers t names ls (bytes ++ rest) in
     let joins : out ++ (bytes ++ rest) ≡ out' ++ rest = sym (append_assoc out bytes rest) ∙ ap (λ (l : List ℕ). l ++ rest) (sym e) in
-    subst R joins (so_far (bytes ++ rest) (subst Q (sym first ∙ ap lines_of is) here))
+    subst (Answers t names all) joins (so_far (bytes ++ rest) (subst P (sym first) (line_by_line line later bytes rest right others)))
 
 -- no line is left
-pub answers_all : (t : Table) (names : ℕ → List ℕ) (input : List ℕ) (at : ℕ) (out : List ℕ) → length input ≤ at
-    → ((rest : List ℕ) → Answers t names (lines_of (drop at input)) rest → Answers t names (lines_of input) (out ++ rest)) → Answers t names (lines_of input) out
-answers_all t names input at out h so_far =
-    let P : List ℕ → Type 0 = λ l. Answers t names (lines_of l) [] in
-    let R : List ℕ → Type 0 = λ l. Answers t names (lines_of input) l in
-    subst R (append-nil out) (so_far [] (subst P (sym (drop_all at input h)) no_lines))
+pub answers_all : (t : Table) (names : ℕ → List ℕ) (all left : List (List ℕ)) (out : List ℕ) → left ≡ [] → ((rest : List ℕ) → Answers t names left rest → Answers t names all (out ++ rest)) → Answers t names all out
+answers_all t names all left out none so_far =
+    let P : List (List ℕ) → Type 0 = λ ls. Answers t names ls [] in
+    subst (Answers t names all) (append-nil out) (so_far [] (subst P (sym none) no_lines))
 
 -- the names of a file are short
 pub brief_names : (m : ℕ) → m ≤ 64 → Brief (file_name m)

@@ -1,3 +1,4 @@
+pub mod Cutting
 pub mod Splitting
 pub mod Serves
 pub mod Rooms

@@ -1,8 +1,7 @@
 -- Answers of a check exist in their dialogue, and the lists have room for their texts.
-use Rattle.std.proofs.Common.{◌≡◌, ℕ, suc, ◌+◌, ◌*◌, ◌<◌, ◌≤◌, ltb, List, [], ◌∷◌, ◌++◌, length, take, drop, Some, None, Ok, Option, sym, refl, ap, ◌∙◌, subst, ⊎_elim, arith, Bor}
-use Rattle.std.proofs.lemmas.List.{length-map, length-take-le, take_at}
-use Rattle.std.proofs.lemmas.Bool.{lt-ltb, le-ltb, cases_lt, and_from, cond-true, cond-false}
-use Rattle.faults.specs.declared.Fault.{Fault}
+use Rattle.std.proofs.Common.{◌≡◌, ℕ, suc, ◌+◌, ◌*◌, ◌<◌, ◌≤◌, ltb, List, [], ◌∷◌, length, take, Some, None, Option, sym, refl, ap, ◌∙◌, subst, ⊎_elim, arith, Bor}
+use Rattle.std.proofs.lemmas.List.{length-map, length-take-le}
+use Rattle.std.proofs.lemmas.Bool.{lt-ltb, le-ltb, cases_lt, and_from, cond-true}
 use Rattle.formulas.specs.Formula.{Formula}
 use Rattle.lassos.specs.Lasso.{after}
 use Rattle.rules.specs.Refusal.{Accepted}
@@ -16,26 +15,12 @@ use Rattle.unfolding.specs.Pushed.{locations}
 use Rattle.printing.specs.declared.answer.Answer.{Answer}
 use Rattle.printing.specs.declared.answer.Answer.TheVariants.{Holds, Refused, Broken}
 use Rattle.printing.specs.Refusal.{exists, first_absent, fault_of_entries, fault_of}
-use Rattle.printing.specs.Printed.{print_answer, print_list}
 use Rattle.printing.specs.Text.{text}
 use Rattle.printing.proofs.Lengths.{holds_length, broken_length, existing}
 use Rattle.search.specs.declared.records.Lasso.{Lasso}
-use Rattle.checker.specs.declared.verdict.Verdict.{Verdict}
-use Rattle.checker.specs.declared.verdict.Verdict.TheVariants as verdict
 use Rattle.checker.specs.Answer.{Decided, Written}
 use Rattle.console.specs.Answers.{Right, holds, broken}
 use Rattle.console.specs.Rooms.{Brief, Held, Tells}
-
--- print, of an answer with no fault into a list with room
-pub printed_whole : (o : Option Fault) (bytes out : List ℕ) → o ≡ None → length bytes ≤ length out → print_answer o bytes out ≡ Ok (length bytes)
-printed_whole None bytes out e h = let long = le-ltb (length out) (length bytes) h in simp long
-printed_whole (Some fault) bytes out e h = let clash : ◌≡◌ {A = ℕ} 0 1 = cc in absurd (omega arith)
-
-pub printed_front : (o : Option Fault) (bytes out : List ℕ) → o ≡ None → length bytes ≤ length out → take (length bytes) (print_list o bytes out) ≡ bytes
-printed_front None bytes out e h =
-    let long = le-ltb (length out) (length bytes) h in
-    ap (take (length bytes)) (cond-false (ltb (length out) (length bytes)) out (bytes ++ drop (length bytes) out) long) ∙ take_at bytes (drop (length bytes) out) (length bytes) refl
-printed_front (Some fault) bytes out e h = let clash : ◌≡◌ {A = ℕ} 0 1 = cc in absurd (omega arith)
 
 same_length : (es : List Press) → length (entries_in es) ≡ length es
 same_length es = length-map es entry_of
@@ -81,9 +66,9 @@ module _ (t : Table) (formed : Formed t) where
       omega arith
 
   module _ (f : Formula) (old new : List Press) where
-    pub held : (v : Verdict) → Decided t f old new v → Held v (length new)
-    held verdict.Holds d = tt
-    held (verdict.Broken l) d = d.within
+    pub held : (v : Option Lasso) → Decided t f old new v → Held v (length new)
+    held None d = tt
+    held (Some l) d = d.within
 
     lasso_of : (l : Lasso) (u : ℕ) (entries : Bor (List Press)) → Written t f old new l.lead l.len → u ≡ l.lead → entries.now ≡ take l.len new → Breaks t f (entries_in entries.now) u
     lasso_of l u entries d e x =
@@ -98,29 +83,29 @@ module _ (t : Table) (formed : Formed t) where
         let bound = d.bound in
         omega arith
 
-    pub told_sound : (v : Verdict) (a : Answer) → Decided t f old new v → Tells v new a → fault_of t a ≡ None
-    told_sound verdict.Holds Holds d e = refl
-    told_sound verdict.Holds (Refused fault) d e = absurd e
-    told_sound verdict.Holds (Broken u entries) d e = absurd e
-    told_sound (verdict.Broken l) Holds d e = absurd e
-    told_sound (verdict.Broken l) (Refused fault) d e = absurd e
-    told_sound (verdict.Broken l) (Broken u entries) d e = lasso_sound entries.now u (lasso_of l u entries d e.0 e.1).0
+    pub told_sound : (v : Option Lasso) (a : Answer) → Decided t f old new v → Tells v new a → fault_of t a ≡ None
+    told_sound None Holds d e = refl
+    told_sound None (Refused fault) d e = absurd e
+    told_sound None (Broken u entries) d e = absurd e
+    told_sound (Some l) Holds d e = absurd e
+    told_sound (Some l) (Refused fault) d e = absurd e
+    told_sound (Some l) (Broken u entries) d e = lasso_sound entries.now u (lasso_of l u entries d e.0 e.1).0
 
-    pub told_room : (names : ℕ → List ℕ) → Brief names → (locations f + 1) * size t f ≤ 5120 → (v : Verdict) (a : Answer) → Decided t f old new v → Tells v new a → length (text names a) ≤ 76824
-    told_room names brief few verdict.Holds Holds d e = omega (arith, holds_length names)
-    told_room names brief few verdict.Holds (Refused fault) d e = absurd e
-    told_room names brief few verdict.Holds (Broken u entries) d e = absurd e
-    told_room names brief few (verdict.Broken l) Holds d e = absurd e
-    told_room names brief few (verdict.Broken l) (Refused fault) d e = absurd e
-    told_room names brief few (verdict.Broken l) (Broken u entries) d e =
+    pub told_room : (names : ℕ → List ℕ) → Brief names → (locations f + 1) * size t f ≤ 5120 → (v : Option Lasso) (a : Answer) → Decided t f old new v → Tells v new a → length (text names a) ≤ 76824
+    told_room names brief few None Holds d e = omega (arith, holds_length names)
+    told_room names brief few None (Refused fault) d e = absurd e
+    told_room names brief few None (Broken u entries) d e = absurd e
+    told_room names brief few (Some l) Holds d e = absurd e
+    told_room names brief few (Some l) (Refused fault) d e = absurd e
+    told_room names brief few (Some l) (Broken u entries) d e =
         let n = count_of l entries d e.1 in
         lasso_room names brief u entries (lasso_of l u entries d e.0 e.1).0 (omega arith)
 
-    pub told_right : (line : List ℕ) → Accepted line f → size t f ≤ 512 → (Startless t → ⊥) → (v : Verdict) (a : Answer) → Decided t f old new v → Tells v new a → Right t line a
-    told_right line accepted small some verdict.Holds Holds d e = holds f accepted small some d.0
-    told_right line accepted small some verdict.Holds (Refused fault) d e = absurd e
-    told_right line accepted small some verdict.Holds (Broken u entries) d e = absurd e
-    told_right line accepted small some (verdict.Broken l) Holds d e = absurd e
-    told_right line accepted small some (verdict.Broken l) (Refused fault) d e = absurd e
-    told_right line accepted small some (verdict.Broken l) (Broken u entries) d e =
+    pub told_right : (line : List ℕ) → Accepted line f → size t f ≤ 512 → (Startless t → ⊥) → (v : Option Lasso) (a : Answer) → Decided t f old new v → Tells v new a → Right t line a
+    told_right line accepted small some None Holds d e = holds f accepted small some d.0
+    told_right line accepted small some None (Refused fault) d e = absurd e
+    told_right line accepted small some None (Broken u entries) d e = absurd e
+    told_right line accepted small some (Some l) Holds d e = absurd e
+    told_right line accepted small some (Some l) (Refused fault) d e = absurd e
+    told_right line accepted small some (Some l) (Broken u entries) d e =
         broken f u entries accepted small some (lasso_of l u entries d e.0 e.1) (count_of l entries d e.1)

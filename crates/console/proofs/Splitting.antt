@@ -1,5 +1,5 @@
 -- The lines of an input, one at a time and all of them.
-use Rattle.std.proofs.Common.{◌≡◌, ℕ, zero, suc, ◌+◌, ◌<◌, Bool, true, false, cond, eqb, ◌⊎◌, List, [], ◌∷◌, length, get_or, take, drop, sym, refl, ap, ◌∙◌, inl, inr, add-one, arith}
+use Rattle.std.proofs.Common.{◌≡◌, ℕ, zero, suc, ◌+◌, ◌<◌, Bool, true, false, cond, eqb, ◌⊎◌, List, [], ◌∷◌, length, get_or, take, drop, sym, refl, ap, ◌∙◌, inl, inr, arith}
 use Rattle.std.specs.List.{flat_map}
 use Rattle.std.proofs.lemmas.List.{take_all, drop_all}
 use Rattle.std.proofs.lemmas.Bool.{eq-eqb, ne_eqb, eqb-true, eqb-false, cond-true, cond-false}
@@ -20,10 +20,6 @@ ended_line (byte ∷ bytes) (suc k) h none e =
 last_line : (byte : ℕ) (bytes : List ℕ) → ((i : ℕ) → i < suc (length bytes) → get_or (byte ∷ bytes) i 0 ≡ 10 → ⊥) → lines_of (byte ∷ bytes) ≡ (byte ∷ bytes) ∷ []
 last_line byte [] none = at_other byte [] (none 0 (omega arith))
 last_line byte (next ∷ bytes) none = at_other byte (next ∷ bytes) (none 0 (omega arith)) ∙ ap (begun byte) (last_line next bytes (λ i l. none (suc i) (omega arith)))
-
--- a first line that a newline ends
-pub line_ends : (bytes : List ℕ) (k : ℕ) → k < length bytes → ((i : ℕ) → i < k → get_or bytes i 0 ≡ 10 → ⊥) → get_or bytes k 0 ≡ 10 → lines_of bytes ≡ take k bytes ∷ lines_of (drop (k + 1) bytes)
-line_ends bytes k h none e = ended_line bytes k h none e ∙ ap (λ (n : ℕ). take k bytes ∷ lines_of (drop n bytes)) (sym (add-one k))
 
 -- a line that is all there is
 pub only_line : (bytes : List ℕ) → 0 < length bytes → ((i : ℕ) → i < length bytes → get_or bytes i 0 ≡ 10 → ⊥) → lines_of bytes ≡ take (length bytes) bytes ∷ lines_of (drop (length bytes + 1) bytes)

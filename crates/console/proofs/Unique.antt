@@ -6,7 +6,7 @@ use Rattle.rules.specs.Refusal as reading
 use Rattle.rules.proofs.Theorems.{one_formula_law, one_answer_law, not_both}
 use Rattle.tables.specs.Table.{Table}
 use Rattle.loops.specs.Answer.{Startless, no_start}
-use Rattle.search.specs.Results.{too_short}
+use Rattle.search.specs.Lists.{too_short}
 use Rattle.unfolding.specs.declared.Press.{Press}
 use Rattle.unfolding.specs.Breaks.{Breaks}
 use Rattle.unfolding.specs.Presses.{entries_in}

@@ -8,7 +8,7 @@ use Rattle.tables.specs.Table.{Table}
 use Rattle.loops.specs.Answer.{Startless, no_start}
 use Rattle.tables.specs.Files.{fault_of, file_table, file_name}
 use Rattle.tables.specs.Layers.{barred}
-use Rattle.search.specs.Results.{too_short}
+use Rattle.search.specs.Lists.{too_short}
 use Rattle.unfolding.specs.declared.Press.{Press}
 use Rattle.unfolding.specs.Breaks.{Breaks}
 use Rattle.unfolding.specs.Presses.{entries_in}

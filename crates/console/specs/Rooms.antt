@@ -1,8 +1,8 @@
 -- The lists that the console lends.
-use Rattle.std.specs.Prelude.{◌≡◌, ℕ, ◌≤◌, List, length, take}
+use Rattle.std.specs.Prelude.{◌≡◌, ℕ, ◌≤◌, List, length, take, Some, None, Option}
 use Rattle.unfolding.specs.declared.Press.{Press}
-use Rattle.checker.specs.declared.verdict.Verdict.{Verdict}
-use Rattle.checker.specs.declared.verdict.Verdict.TheVariants as verdict
+use Rattle.search.specs.declared.lists.Lengths.{Lengths}
+use Rattle.search.specs.declared.records.Lasso.{Lasso}
 use Rattle.printing.specs.declared.answer.Answer.{Answer}
 use Rattle.printing.specs.declared.answer.Answer.TheVariants.{Holds, Refused, Broken}
 
@@ -10,25 +10,25 @@ use Rattle.printing.specs.declared.answer.Answer.TheVariants.{Holds, Refused, Br
 abbrev pub Brief : (ℕ → List ℕ) → Type 0
 Brief names = (e : ℕ) → length (names e) ≤ 8
 
--- 512 marks, slots, frames and roots, presses for ten locations, and room for their text
-pub record Room (marks slots trail roots presses out : ℕ) : Type 0 where
-  pub marks_are : marks ≡ 512
-  pub slots_are : slots ≡ 512
-  pub trail_is : trail ≡ 512
-  pub roots_are : roots ≡ 512
+-- lists for 512 nodes, presses for ten locations, and room for their text
+pub record Room (lists : Lengths) (presses out : ℕ) : Type 0 where
+  pub marks_are : lists.marks ≡ 512
+  pub slots_are : lists.slots ≡ 512
+  pub trail_is : lists.trail ≡ 512
+  pub roots_are : lists.roots ≡ 512
   pub presses_are : presses ≡ 5120
   pub out_is : out ≡ 76824
 
--- the entries of a verdict are there
-abbrev pub Held : Verdict → ℕ → Type 0
-Held verdict.Holds n = Unit {0}
-Held (verdict.Broken l) n = l.len ≤ n
+-- the entries of a lasso are there
+abbrev pub Held : Option Lasso → ℕ → Type 0
+Held None n = Unit {0}
+Held (Some l) n = l.len ≤ n
 
--- a verdict as an answer
-abbrev pub Tells : Verdict → List Press → Answer → Type 0
-Tells verdict.Holds entries Holds = Unit {0}
-Tells verdict.Holds entries (Refused fault) = ⊥
-Tells verdict.Holds entries (Broken u found) = ⊥
-Tells (verdict.Broken l) entries Holds = ⊥
-Tells (verdict.Broken l) entries (Refused fault) = ⊥
-Tells (verdict.Broken l) entries (Broken u found) = (u ≡ l.lead) × (found.now ≡ take l.len entries)
+-- what a check found, as an answer
+abbrev pub Tells : Option Lasso → List Press → Answer → Type 0
+Tells None entries Holds = Unit {0}
+Tells None entries (Refused fault) = ⊥
+Tells None entries (Broken u found) = ⊥
+Tells (Some l) entries Holds = ⊥
+Tells (Some l) entries (Refused fault) = ⊥
+Tells (Some l) entries (Broken u found) = (u ≡ l.lead) × (found.now ≡ take l.len entries)

@@ -2,18 +2,19 @@
 ghost use Rattle.std.specs.Prelude.{◌≡◌, length, take, IfOk};
 ghost use Rattle.printing.specs.Text.{text as text_of};
 ghost use Rattle.printing.specs.declared.answer.Answer.TheVariants.{Refused};
+ghost use Rattle.search.specs.Lists.{lengths};
 ghost use Rattle.console.specs.Answers.{Answers, Responds};
 ghost use Rattle.console.specs.Lines.{lines_of};
 ghost use Rattle.console.specs.Rooms.{Brief, Room};
 
 use crate::answers::{answer_line, put_refusal};
-use crate::lines::line_end;
+use crate::lines::Lines;
 use dialogues::bar::Bar;
 use dialogues::named::Named;
 use drawings::checks::check_file;
 use drawings::file::File;
 use faults::Fault;
-use search::{Frame, Root, Slot};
+use search::{Frame, Lists, Root, Slot};
 use std::alloc::{AllocError, Global};
 use unfolding::Press;
 
@@ -33,11 +34,7 @@ const TEXT: usize = 76824;
 fn front(bytes: &[u8]) -> &[u8]
     ensures { result.now ≡ take 4096 bytes.now }
 {
-    if bytes.len() > MOST {
-        &bytes[..MOST]
-    } else {
-        bytes
-    }
+    &bytes[..bytes.len().min(MOST)]
 }
 
 /// The line of a refusal.
@@ -56,34 +53,30 @@ fn answer_lines<D: Named>(
     heap: Global,
     dialogue: &D,
     input: &[u8],
-    marks: &mut [u8],
-    slots: &mut [Slot],
-    trail: &mut [Frame],
-    roots: &mut [Root],
+    lists: Lists,
     presses: &mut [Press],
     text: &mut [u8],
 ) -> Result<Vec<u8>, AllocError>
     requires brief { Brief (D.Named.names dialogue.now) }
-    requires room { Room (length marks.old) (length slots.old) (length trail.old) (length roots.old) (length presses.old) (length text.old) }
+    requires room { Room (lengths lists) (length presses.old) (length text.old) }
     ensures { IfOk result (λ out. Answers (D.Dialogue.table dialogue.now) (D.Named.names dialogue.now) (lines_of input.now) out.items) }
 {
+    let Lists {
+        marks,
+        slots,
+        trail,
+        roots,
+    } = lists;
     let mut out = Vec::new(heap);
-    let mut at = 0;
-    while at < input.len() {
-        let rest = &input[at..];
-        let end = line_end(rest);
-        let count = answer_line(
-            dialogue,
-            &rest[..end],
-            marks,
-            slots,
-            trail,
-            roots,
-            presses,
-            text,
-        );
+    for line in (Lines { rest: input }) {
+        let lent = Lists {
+            marks: &mut *marks,
+            slots: &mut *slots,
+            trail: &mut *trail,
+            roots: &mut *roots,
+        };
+        let count = answer_line(dialogue, line, lent, presses, text);
         out.extend_from_slice(&text[..count])?;
-        at += end + 1;
     }
     Ok(out)
 }
@@ -99,14 +92,17 @@ fn respond_to<D: Named>(heap: Global, dialogue: &D, input: &[u8]) -> Result<Vec<
     let mut roots = vec![in heap; Root::default(); NODES]?;
     let mut presses = vec![in heap; Press::default(); PRESSES]?;
     let mut text = vec![in heap; 0; TEXT]?;
+    let lists = Lists {
+        marks: marks.as_mut_slice(),
+        slots: slots.as_mut_slice(),
+        trail: trail.as_mut_slice(),
+        roots: roots.as_mut_slice(),
+    };
     answer_lines(
         heap,
         dialogue,
         input,
-        marks.as_mut_slice(),
-        slots.as_mut_slice(),
-        trail.as_mut_slice(),
-        roots.as_mut_slice(),
+        lists,
         presses.as_mut_slice(),
         text.as_mut_slice(),
     )

@@ -3,4 +3,5 @@ pub mod Pushing
 pub mod Counting
 pub mod Seeking
 pub mod Filling
+pub mod Ranges
 pub mod Telling

@@ -55,11 +55,6 @@ owns (Globally l f) k = l == k
 owns (Until l f g) k = l == k
 owns (Release l f g) k = l == k
 
--- the first that is there
-abbrev pub earlier : Option Signed → Option Signed → Option Signed
-earlier (Some s) other = Some s
-earlier None other = other
-
 -- the temporal part of location k within a part, if there is one
 abbrev pub Sought : List Row → Signed → ℕ → Option Signed → Type 0
 Sought rows part k None = seek (part_of rows part) k ≡ None

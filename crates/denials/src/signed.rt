@@ -1,7 +1,9 @@
 //! Parts of a rule's table with a sign.
+ghost use Rattle.std.specs.Prelude.{◌≡◌};
+ghost use Rattle.denials.specs.Signs.{owns};
 
 /// A part of a rule's table, as it stands (`sign` true) or negated.
-#[derive(Clone, Copy)]
+#[derive(Clone, Copy, Default)]
 pub struct Signed {
     pub(crate) index: usize,
     pub(crate) sign: bool,
@@ -22,6 +24,26 @@ pub(crate) enum Pushed {
     Release(usize, Signed, Signed),
 }
 
+impl Pushed {
+    /// Whether it is the temporal part of a location.
+    pub(crate) fn is_own(self, location: usize) -> bool
+        ensures { result ≡ owns self location }
+    {
+        match self {
+            Pushed::Fixed(_)
+            | Pushed::Literal(_, _)
+            | Pushed::Same(_)
+            | Pushed::Both(_, _)
+            | Pushed::Either(_, _) => false,
+            Pushed::Next(own, _)
+            | Pushed::Finally(own, _)
+            | Pushed::Globally(own, _)
+            | Pushed::Until(own, _, _)
+            | Pushed::Release(own, _, _) => own == location,
+        }
+    }
+}
+
 /// What is due for a location: a signed part; and whether the location is a promise.
 #[derive(Clone, Copy)]
 pub(crate) struct Due {
@@ -30,15 +52,8 @@ pub(crate) struct Due {
 }
 
 /// What a location owes: a signed part, and the set of the locations that it mentions.
-#[derive(Clone, Copy)]
+#[derive(Clone, Copy, Default)]
 pub struct Debt {
     pub(crate) part: Signed,
     pub(crate) mentions: u32,
-}
-
-/// The debts of all locations, and the set of the locations that are promises.
-#[derive(Clone, Copy)]
-pub(crate) struct Debts {
-    pub(crate) each: [Debt; 10],
-    pub(crate) promises: u32,
 }

@@ -2,7 +2,7 @@
 ghost use Rattle.tables.specs.Layers.{barred};
 ghost use Rattle.tables.proofs.Layers.{barred_formed};
 
-use crate::dialogue::Dialogue;
+use crate::dialogue::{Dialogue, Size};
 
 /// The dialogue below with one event barred: that event leads nowhere, and all else is as below. A barred event keeps its number.
 #[derive(Clone, Copy)]
@@ -22,6 +22,10 @@ impl<D: Dialogue> Dialogue for Bar<D> {
 
     fn events(&self) -> u8 {
         self.below.events()
+    }
+
+    fn size(&self) -> Size {
+        self.below.size()
     }
 
     fn is_start(&self, state: usize) -> bool {

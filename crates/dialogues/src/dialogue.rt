@@ -1,6 +1,13 @@
-//! The five questions that every dialogue answers.
+//! The questions that every dialogue answers.
 ghost use Rattle.std.specs.Prelude.{◌≡◌};
 ghost use Rattle.tables.specs.Table.{Table, Formed};
+
+/// How many states and events a dialogue has.
+#[derive(Clone, Copy)]
+pub struct Size {
+    pub states: u32,
+    pub events: u8,
+}
 
 /// A dialogue. It means its table, and each answer is the table's, for every number that is asked. A state that does not exist is no start,
 /// has label 0 and no next state; an event that does not exist leads nowhere. Asking alters nothing.
@@ -29,6 +36,17 @@ pub trait Dialogue {
     /// Where an event leads from a state.
     fn next(&self, state: usize, event: usize) -> Option<u16>
         ensures { result ≡ (table self.now).next state event };
+
+    /// Both counts at once.
+    fn size(&self) -> Size
+        ensures states { result.states ≡ (table self.now).states }
+        ensures events { result.events ≡ (table self.now).events }
+    {
+        Size {
+            states: self.states(),
+            events: self.events(),
+        }
+    }
 }
 
 /// What is lent answers as the dialogue itself does.
@@ -43,6 +61,10 @@ impl<D: Dialogue> Dialogue for &D {
 
     fn events(&self) -> u8 {
         D::events(*self)
+    }
+
+    fn size(&self) -> Size {
+        D::size(*self)
     }
 
     fn is_start(&self, state: usize) -> bool {

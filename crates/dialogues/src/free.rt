@@ -14,7 +14,7 @@ pub struct Free {
 
 impl Free {
     /// The number of states, which is that of the events: 2 to the number of letters.
-    fn size(&self) -> u8
+    fn count(&self) -> u8
         ensures { result ≡ free_size self.now.letters }
     {
         if self.letters <= 6 {
@@ -31,19 +31,19 @@ impl Dialogue for Free {
     ghost formed = { λ f. free_formed f.letters };
 
     fn states(&self) -> u32 {
-        self.size() as u32
+        self.count() as u32
     }
 
     fn events(&self) -> u8 {
-        self.size()
+        self.count()
     }
 
     fn is_start(&self, state: usize) -> bool {
-        state < self.size() as usize
+        state < self.count() as usize
     }
 
     fn label(&self, state: usize) -> u16 {
-        if state < self.size() as usize {
+        if self.is_start(state) {
             state as u16
         } else {
             0
@@ -51,11 +51,7 @@ impl Dialogue for Free {
     }
 
     fn next(&self, state: usize, event: usize) -> Option<u16> {
-        let size = self.size() as usize;
-        if state < size && event < size {
-            Some(event as u16)
-        } else {
-            None
-        }
+        let count = self.count() as usize;
+        (state < count && event < count).then(|| event as u16)
     }
 }

@@ -1,12 +1,12 @@
 //! Dialogues whose events have names.
-ghost use Rattle.std.specs.Prelude.{◌≡◌, ℕ, ◌-◌, List, is_some, nat_lt};
+ghost use Rattle.std.specs.Prelude.{◌≡◌, ℕ, List, is_some, nat_lt};
 ghost use Rattle.tables.specs.Layers.{pair_names};
 ghost use Rattle.dialogues.specs.Names.{spelled};
 
 use crate::bar::Bar;
 use crate::dialogue::Dialogue;
 use crate::name::Name;
-use crate::pair::Pair;
+use crate::pair::{Pair, Side};
 
 /// A dialogue that names each of its events in 1 to 8 bytes. An event that does not exist has no name.
 pub trait Named: Dialogue {
@@ -42,14 +42,9 @@ impl<L: Named, R: Named> Named for Pair<L, R> {
     ghost names = { λ p e. pair_names (L.Dialogue.table p.left) (R.Dialogue.table p.right) (L.Named.names p.left) (R.Named.names p.right) e };
 
     fn name(&self, event: usize) -> Option<Name> {
-        if event >= self.events() as usize {
-            return None;
-        }
-        let shift = self.left.events() as usize;
-        if event < shift {
-            self.left.name(event)
-        } else {
-            self.right.name(event - shift)
+        match self.side_of(event)? {
+            Side::Left(left) => self.left.name(left),
+            Side::Right(right) => self.right.name(right),
         }
     }
 }

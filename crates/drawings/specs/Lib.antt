@@ -1,5 +1,5 @@
+pub mod Rows
 pub mod Drawn
 pub mod Read
 pub mod Opened
 pub mod Calls
-pub mod Stores

@@ -4,6 +4,7 @@ ghost use Rattle.drawings.specs.Calls.{after_call, spelled};
 ghost use Rattle.drawings.specs.Drawn.{drawn};
 
 use crate::drawing::Drawing;
+use faults::Fault;
 
 /// A call that changes a drawing.
 #[derive(Clone, Copy)]
@@ -18,27 +19,20 @@ pub enum Call<'a> {
 
 impl Drawing {
     /// Makes one call. A call that is refused alters nothing.
-    fn apply(&mut self, call: Call)
+    fn apply(&mut self, call: Call) -> Result<(), Fault>
         ensures { drawn self.new ≡ after_call (drawn self.old) call.entry }
     {
         match call {
             Call::Add(label, start) => {
-                let _ = self.add(label, start);
+                self.add(label, start)?;
             }
-            Call::Relabel(state, label, start) => {
-                let _ = self.relabel(state, label, start);
-            }
-            Call::Join(from, event, to) => {
-                let _ = self.join(from, event, to);
-            }
-            Call::Cut(from, event) => {
-                let _ = self.cut(from, event);
-            }
+            Call::Relabel(state, label, start) => self.relabel(state, label, start)?,
+            Call::Join(from, event, to) => self.join(from, event, to)?,
+            Call::Cut(from, event) => self.cut(from, event)?,
             Call::Wipe => self.wipe(),
-            Call::Take(bytes) => {
-                let _ = self.take(bytes);
-            }
+            Call::Take(bytes) => self.take(bytes)?,
         }
+        Ok(())
     }
 
     /// The drawing that a list of calls makes of a new one.
@@ -47,7 +41,7 @@ impl Drawing {
     {
         let mut drawing = Drawing::new();
         for call in calls {
-            drawing.apply(*call);
+            let _ = drawing.apply(*call);
         }
         drawing
     }

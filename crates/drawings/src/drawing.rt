@@ -1,11 +1,15 @@
 //! Drawings.
-ghost use Rattle.std.specs.Prelude.{ℕ, ◌<◌, ◌≤◌, slice_index};
-ghost use Rattle.tables.specs.Cells.{Within, Clear};
+ghost use Rattle.std.specs.Prelude.{ℕ, ◌<◌, ◌≤◌};
+ghost use Rattle.tables.specs.Cells.{Within};
+ghost use Rattle.drawings.specs.Rows.{label_at, next_at};
+
+use crate::drawing::state::State;
 
 mod calls;
 mod copies;
 pub mod names;
 pub mod questions;
+mod state;
 mod writes;
 
 /// How many states a drawing has room for.
@@ -18,12 +22,8 @@ const EVENTS: usize = 16;
 #[derive(Clone, Copy)]
 pub struct Drawing {
     count: usize,
-    starts: [bool; 64],
-    labels: [u16; 64],
-    // The next state of state s by event e stands at s * 16 + e.
-    next: [Option<u8>; 1024],
+    states: [State; 64],
     ghost few: { count ≤ 64 },
-    ghost fit: { (s : ℕ) → slice_index labels s < 65536 },
-    ghost within: { Within count next },
-    ghost clear: { Clear count next },
+    ghost fit: { (s : ℕ) → label_at states s < 65536 },
+    ghost within: { Within count (next_at states) },
 }

@@ -4,58 +4,59 @@
 
 ghost use Rattle.std.specs.Prelude.{◌≡◌, ◌+◌, ◌*◌, min, Some};
 ghost use Rattle.faults.specs.Numbers.{cause_number, layer_number, fault_text};
+ghost use Rattle.faults.specs.Refusals.{refusal};
 ghost use Rattle.faults.specs.Writing.{put_answer, put_list};
 
 use std::fmt;
 
-/// Why a call was refused. `number` gives the number that users know a cause by.
+/// Why a call was refused. Users know each cause by its number.
 #[derive(Clone, Copy, PartialEq, Eq, PartialOrd, Ord, Debug)]
 pub enum Cause {
-    /// 11: a rule text of more than 128 bytes.
-    TextTooLong,
-    /// 12: a byte with which the text begins no rule.
-    UnexpectedByte,
-    /// 13: the rule text ends too early.
-    TextTooShort,
-    /// 14: a tenth temporal operator.
-    TooManyOperators,
-    /// 15: the file ends early.
-    FileTooShort,
-    /// 16: a byte that begins or continues no record mark that is due.
-    BadMark,
-    /// 17: a value or an order that a file may not have.
-    BadRecord,
-    /// 18: bytes after the end record of a file.
-    TrailingBytes,
-    /// 19: a state, an event or a start mark that does not exist.
-    NoSuchArgument,
-    /// 20: a lead-in that does not lie below the number of entries, or too many entries for the judge.
-    BadLeadIn,
-    /// 31: a drawing has no room.
-    DrawingFull,
-    /// 32: a state and event that have a next state already.
-    AlreadyJoined,
-    /// 33: a state and event that have no next state.
-    NotJoined,
-    /// 34: more nodes than a check serves.
-    TooManyNodes,
-    /// 35: a lent list that is too short.
-    ListTooShort,
-    /// 36: a dialogue with no start.
-    NoStart,
+    /// a rule text of more than 128 bytes.
+    TextTooLong = 11,
+    /// a byte with which the text begins no rule.
+    UnexpectedByte = 12,
+    /// the rule text ends too early.
+    TextTooShort = 13,
+    /// a tenth temporal operator.
+    TooManyOperators = 14,
+    /// the file ends early.
+    FileTooShort = 15,
+    /// a byte that begins or continues no record mark that is due.
+    BadMark = 16,
+    /// a value or an order that a file may not have.
+    BadRecord = 17,
+    /// bytes after the end record of a file.
+    TrailingBytes = 18,
+    /// a state, an event or a start mark that does not exist.
+    NoSuchArgument = 19,
+    /// a lead-in that does not lie below the number of entries, or too many entries for the judge.
+    BadLeadIn = 20,
+    /// a drawing has no room.
+    DrawingFull = 31,
+    /// a state and event that have a next state already.
+    AlreadyJoined = 32,
+    /// a state and event that have no next state.
+    NotJoined = 33,
+    /// more nodes than a check serves.
+    TooManyNodes = 34,
+    /// a lent list that is too short.
+    ListTooShort = 35,
+    /// a dialogue with no start.
+    NoStart = 36,
 }
 
-/// The layer that refused.
+/// The layer that refused. Users know each layer by its number.
 #[derive(Clone, Copy, PartialEq, Eq, PartialOrd, Ord, Debug)]
 pub enum Layer {
-    /// 1: reading and writing rule texts.
-    Rule,
-    /// 2: reading dialogue files.
-    File,
-    /// 3: drawings.
-    Drawing,
-    /// 4: check, loops, judge and print.
-    Check,
+    /// reading and writing rule texts.
+    Rule = 1,
+    /// reading dialogue files.
+    File = 2,
+    /// drawings.
+    Drawing = 3,
+    /// check, loops, judge and print.
+    Check = 4,
 }
 
 /// A refusal. It travels unchanged from where it arises to the caller.
@@ -71,24 +72,7 @@ impl Cause {
     pub fn number(self) -> u32
         ensures { result ≡ cause_number self }
     {
-        match self {
-            Cause::TextTooLong => 11,
-            Cause::UnexpectedByte => 12,
-            Cause::TextTooShort => 13,
-            Cause::TooManyOperators => 14,
-            Cause::FileTooShort => 15,
-            Cause::BadMark => 16,
-            Cause::BadRecord => 17,
-            Cause::TrailingBytes => 18,
-            Cause::NoSuchArgument => 19,
-            Cause::BadLeadIn => 20,
-            Cause::DrawingFull => 31,
-            Cause::AlreadyJoined => 32,
-            Cause::NotJoined => 33,
-            Cause::TooManyNodes => 34,
-            Cause::ListTooShort => 35,
-            Cause::NoStart => 36,
-        }
+        self as u32
     }
 }
 
@@ -97,11 +81,17 @@ impl Layer {
     pub fn number(self) -> u32
         ensures { result ≡ layer_number self }
     {
-        match self {
-            Layer::Rule => 1,
-            Layer::File => 2,
-            Layer::Drawing => 3,
-            Layer::Check => 4,
+        self as u32
+    }
+
+    /// A refusal by this layer.
+    pub fn refusal(self, cause: Cause, place: usize) -> Fault
+        ensures { result ≡ refusal self cause place }
+    {
+        Fault {
+            cause,
+            place,
+            layer: self,
         }
     }
 }
@@ -136,11 +126,7 @@ pub fn put(bytes: &[u8], out: &mut [u8], layer: Layer) -> Result<usize, Fault>
 {
     let count = bytes.len();
     if out.len() < count {
-        return Err(Fault {
-            cause: Cause::ListTooShort,
-            place: 1,
-            layer,
-        });
+        return Err(layer.refusal(Cause::ListTooShort, 1));
     }
     let front = &mut out[0..count];
     front.copy_from_slice(bytes);

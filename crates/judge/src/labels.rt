@@ -23,10 +23,7 @@ impl<'a> Labels for &'a [u16] {
     }
 
     fn label(&self, position: usize) -> u16 {
-        match self.get(position) {
-            Some(label) => *label,
-            None => 0,
-        }
+        self.get(position).copied().unwrap_or(0)
     }
 }
 
@@ -46,7 +43,7 @@ impl<'a> Labels for LabelBytes<'a> {
     fn label(&self, position: usize) -> u16 {
         let bytes = self.bytes;
         if position < bytes.len() / 2 {
-            u16::from(bytes[2 * position]) + 256 * u16::from(bytes[2 * position + 1])
+            u16::from_le_bytes([bytes[2 * position], bytes[2 * position + 1]])
         } else {
             0
         }

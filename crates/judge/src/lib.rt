@@ -30,18 +30,10 @@ fn admit(count: usize, lead_in: usize, lent: usize) -> Result<(), Fault>
     ensures { result ≡ admitted count lead_in lent tt }
 {
     if lead_in >= count || count > MAX_LABELS {
-        return Err(Fault {
-            cause: Cause::BadLeadIn,
-            place: count.min(65535),
-            layer: Layer::Check,
-        });
+        return Err(Layer::Check.refusal(Cause::BadLeadIn, count.min(65535)));
     }
     if lent < MAX_PARTS * count {
-        return Err(Fault {
-            cause: Cause::ListTooShort,
-            place: 1,
-            layer: Layer::Check,
-        });
+        return Err(Layer::Check.refusal(Cause::ListTooShort, 1));
     }
     Ok(())
 }

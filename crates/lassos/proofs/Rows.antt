@@ -1,9 +1,10 @@
 -- The judge's table: a row of n truth values for each part of a rule, in bytes, one row behind the other.
-use Rattle.std.proofs.Common.{◌≡◌, ℕ, suc, ◌+◌, ◌-◌, ◌*◌, ◌<◌, ◌≤◌, Bool, true, false, cond, not, ◌&&◌, ◌||◌, eqb, ltb, List, length, get_or, set, sym, refl, ap, ◌∙◌, add-zero, suc-mul, arith}
+use Rattle.std.proofs.Common.{◌≡◌, ℕ, suc, ◌+◌, ◌-◌, ◌*◌, ◌<◌, ◌≤◌, Bool, true, false, cond, not, ◌&&◌, ◌||◌, eqb, ltb, List, ◌++◌, length, get_or, set, sym, refl, ap, ◌∙◌, subst, suc-mul, arith}
 use mathlib.Core.Path.{fun_ext}
 use native.Mathlib.Decide.{dec_lt}
 use mir.Val.{bool_byte}
-use Rattle.std.proofs.lemmas.List.{get_or-set_same, get_or-set_other}
+use Rattle.std.proofs.Math.ListN.{get_or-append}
+use Rattle.std.proofs.lemmas.List.{get_or-set_same, get_or-set_other, length-set, get_or-append-add}
 use Rattle.std.proofs.lemmas.Nat.{mul-le}
 use Rattle.std.proofs.lemmas.Bool.{ltb-true}
 use Rattle.formulas.specs.declared.Prefix.{Prefix}
@@ -13,14 +14,14 @@ use Rattle.formulas.specs.declared.Infix.TheVariants.{Implies, Or, And, Until, R
 use Rattle.formulas.specs.declared.Part.{Part}
 use Rattle.formulas.specs.declared.Part.TheVariants.{Constant, Letter, Unary, Binary}
 use Rattle.formulas.specs.Formula.{Formula, constant}
-use Rattle.formulas.specs.Table.{formulas, formula_over, sound_part, sound, whole_formula}
+use Rattle.formulas.specs.Table.{formulas, formula_over, sound_part, sound}
 use Rattle.formulas.proofs.Values.{formula_at, sound_at, both_true}
 use Rattle.lassos.specs.Lasso.{after, later}
 use Rattle.lassos.specs.Truth.{has, some, every, prefixed, infixed, truth}
 use Rattle.lassos.proofs.Places.{after_lt, later_lt}
-use Rattle.lassos.proofs.Sweeps.{step_back, swept, settled, swept_infix, swept_back, swept_none, settled_agree, infix_settled, finally_until, globally_release}
+use Rattle.lassos.proofs.Sweeps.{step_back, swept, settled, swept_infix, swept_back, settled_agree, infix_settled, finally_until, globally_release}
 
--- the truth value at a place of the table
+-- the truth value at a place
 abbrev pub lit : List ℕ → ℕ → Bool
 lit work at = not (eqb (get_or work at 0) 0)
 
@@ -33,110 +34,86 @@ pub record Filled (old new : List ℕ) (to n : ℕ) (v : ℕ → Bool) : Type 0 
   pub kept : (j : ℕ) → j < to → get_or new j 0 ≡ get_or old j 0
   pub made : (i : ℕ) → i < n → lit new (to + i) ≡ v i
 
--- the same from the other end: the values from i on are written, and nothing before them
-pub record Refilled (old new : List ℕ) (to n i : ℕ) (v : ℕ → Bool) : Type 0 where
-  pub kept : (j : ℕ) → j < to + i → get_or new j 0 ≡ get_or old j 0
-  pub made : (k : ℕ) → i ≤ k → k < n → lit new (to + k) ≡ v k
+-- a row of n values
+pub record Holds (bytes : List ℕ) (n : ℕ) (v : ℕ → Bool) : Type 0 where
+  pub long : length bytes ≡ n
+  pub each : (i : ℕ) → i < n → lit bytes i ≡ v i
+
+-- a row in the making: of n values, those below i are there
+pub record Rising (bytes : List ℕ) (n i : ℕ) (v : ℕ → Bool) : Type 0 where
+  pub long : length bytes ≡ n
+  pub below : (k : ℕ) → k < i → lit bytes k ≡ v k
+
+-- the same from the other end: those from i on are there, and the others as they were
+pub record Sinking (old bytes : List ℕ) (n i : ℕ) (v : ℕ → Bool) : Type 0 where
+  pub long : length bytes ≡ n
+  pub kept : (j : ℕ) → j < i → lit bytes j ≡ lit old j
+  pub above : (k : ℕ) → i ≤ k → k < n → lit bytes k ≡ v k
 
 lit_byte : (b : Bool) → not (eqb (bool_byte b) 0) ≡ b
 lit_byte true = refl
 lit_byte false = refl
 
-pub lit_set : (work : List ℕ) (at : ℕ) (b : Bool) → at < length work → lit (set work at (bool_byte b)) at ≡ b
-lit_set work at b l = ap (λ (x : ℕ). not (eqb x 0)) (get_or-set_same work at (bool_byte b) 0 l) ∙ lit_byte b
+lit_set : (bytes : List ℕ) (at : ℕ) (b : Bool) → at < length bytes → lit (set bytes at (bool_byte b)) at ≡ b
+lit_set bytes at b l = ap (λ (x : ℕ). not (eqb x 0)) (get_or-set_same bytes at (bool_byte b) 0 l) ∙ lit_byte b
 
-pub filled_none : (work : List ℕ) (to : ℕ) (v : ℕ → Bool) → Filled work work to 0 v
-filled_none work to v = record { kept = λ j l. refl; made = λ i l. absurd (omega arith) }
+lit_beside : (bytes : List ℕ) (at j : ℕ) (b : Bool) → (j ≡ at → ⊥) → lit (set bytes at (bool_byte b)) j ≡ lit bytes j
+lit_beside bytes at j b apart = ap (λ (x : ℕ). not (eqb x 0)) (get_or-set_other bytes at j (bool_byte b) 0 (omega (arith, apart)))
 
-pub filled_more : (old work : List ℕ) (to i : ℕ) (v : ℕ → Bool) (b : Bool) → to + i < length work → Filled old work to i v → b ≡ v i → Filled old (set work (to + i) (bool_byte b)) to (i + 1) v
-filled_more old work to i v b l f e =
+pub rising_more : (bytes : List ℕ) (n i : ℕ) (v : ℕ → Bool) (b : Bool) → i < n → Rising bytes n i v → b ≡ v i → Rising (set bytes i (bool_byte b)) n (i + 1) v
+rising_more bytes n i v b l r e =
+    let room : i < length bytes = rw r.long l in
     record {
-      kept = λ j h. get_or-set_other work (to + i) j (bool_byte b) 0 (omega arith) ∙ f.kept j h;
-      made = λ k h.
+      long = length-set bytes i (bool_byte b) ∙ r.long;
+      below = λ k h.
           elim (dec_lt k i) [
-            | yes c ↦ ap (λ (x : ℕ). not (eqb x 0)) (get_or-set_other work (to + i) (to + k) (bool_byte b) 0 (omega arith)) ∙ f.made k c
-            | no c ↦ let z : k ≡ i = omega arith in rw z (lit_set work (to + i) b l ∙ e)
+            | yes c ↦ lit_beside bytes i k b (λ (z : k ≡ i). omega arith) ∙ r.below k c
+            | no c ↦ let z : k ≡ i = omega arith in rw z (lit_set bytes i b room ∙ e)
           ];
     }
 
-pub refilled_none : (work : List ℕ) (to n : ℕ) (v : ℕ → Bool) → Refilled work work to n n v
-refilled_none work to n v = record { kept = λ j l. refl; made = λ k l h. absurd (omega arith) }
+sinking_none : (bytes : List ℕ) (n : ℕ) (v : ℕ → Bool) → length bytes ≡ n → Sinking bytes bytes n n v
+sinking_none bytes n v e = record { long = e; kept = λ j l. refl; above = λ k l h. absurd (omega arith) }
 
-pub refilled_more : (old work : List ℕ) (to n i : ℕ) (v : ℕ → Bool) (b : Bool) → to + i < length work → Refilled old work to n (i + 1) v → b ≡ v i → Refilled old (set work (to + i) (bool_byte b)) to n i v
-refilled_more old work to n i v b l f e =
+sinking_more : (old bytes : List ℕ) (n i : ℕ) (v : ℕ → Bool) (b : Bool) → i < n → Sinking old bytes n (i + 1) v → b ≡ v i → Sinking old (set bytes i (bool_byte b)) n i v
+sinking_more old bytes n i v b l s e =
+    let room : i < length bytes = rw s.long l in
     record {
-      kept = λ j h. get_or-set_other work (to + i) j (bool_byte b) 0 (omega arith) ∙ f.kept j (omega arith);
-      made = λ k h m.
+      long = length-set bytes i (bool_byte b) ∙ s.long;
+      kept = λ j h. lit_beside bytes i j b (λ (z : j ≡ i). omega arith) ∙ s.kept j (omega arith);
+      above = λ k h m.
           elim (dec_lt i k) [
-            | yes c ↦ ap (λ (x : ℕ). not (eqb x 0)) (get_or-set_other work (to + i) (to + k) (bool_byte b) 0 (omega arith)) ∙ f.made k (omega arith) m
-            | no c ↦ let z : k ≡ i = omega arith in rw z (lit_set work (to + i) b l ∙ e)
+            | yes c ↦ lit_beside bytes i k b (λ (z : k ≡ i). omega arith) ∙ s.above k (omega arith) m
+            | no c ↦ let z : k ≡ i = omega arith in rw z (lit_set bytes i b room ∙ e)
           ];
     }
 
 -- Once round the loop: the value at position i is at hand.
-pub record Lapping (dual value : Bool) (work : List ℕ) (goal to n u i : ℕ) : Type 0 where
+pub record Lapping (dual value : Bool) (stay goal : List ℕ) (n u i : ℕ) : Type 0 where
   pub low : u ≤ i
   pub bound : i ≤ n
-  pub at_hand : value ≡ swept dual (row work to) (row work goal) n dual (n - i)
-
-pub lapping_none : (dual : Bool) (work : List ℕ) (goal to n u : ℕ) → u < n → Lapping dual dual work goal to n u n
-lapping_none dual work goal to n u h = record { low = omega arith; bound = omega arith; at_hand = sym (swept_none dual (row work to) (row work goal) n dual) }
-
-pub lapping_more : (dual value new : Bool) (work : List ℕ) (goal to n u i : ℕ) → u < i → new ≡ step_back dual (row work to (i - 1)) (row work goal (i - 1)) value → Lapping dual value work goal to n u i → Lapping dual new work goal to n u (i - 1)
-lapping_more dual value new work goal to n u i p e s =
-    record {
-      low = omega arith;
-      bound = let l : i ≤ n = s.bound in omega arith;
-      at_hand =
-          e
-          ∙ ap (step_back dual (row work to (i - 1)) (row work goal (i - 1))) s.at_hand
-          ∙ sym (swept_back dual (row work to) (row work goal) n dual i (omega arith) s.bound);
-    }
-
-pub lapping_all : (dual value : Bool) (work : List ℕ) (goal to n u i : ℕ) → i ≤ u → Lapping dual value work goal to n u i → value ≡ swept dual (row work to) (row work goal) n dual (n - u)
-lapping_all dual value work goal to n u i z s =
-    let l : u ≤ i = s.low in
-    let e : i ≡ u = omega arith in
-    rw e at s.at_hand
+  pub at_hand : value ≡ swept dual (lit stay) (lit goal) n dual (n - i)
 
 -- One sweep in place: the values from position i on are made, and the one at i is at hand.
-pub record Sweeping (dual next value : Bool) (old work : List ℕ) (goal to n i : ℕ) : Type 0 where
+pub record Sweeping (dual next value : Bool) (old bytes goal : List ℕ) (n i : ℕ) : Type 0 where
   pub bound : i ≤ n
-  pub at_hand : value ≡ swept dual (row old to) (row old goal) n next (n - i)
-  pub behind : Refilled old work to n i (λ j. swept dual (row old to) (row old goal) n next (n - j))
+  pub at_hand : value ≡ swept dual (lit old) (lit goal) n next (n - i)
+  pub behind : Sinking old bytes n i (λ j. swept dual (lit old) (lit goal) n next (n - j))
 
-pub sweeping_none : (dual next : Bool) (work : List ℕ) (goal to n : ℕ) → Sweeping dual next next work work goal to n n
-sweeping_none dual next work goal to n =
-    record {
-      bound = omega arith;
-      at_hand = sym (swept_none dual (row work to) (row work goal) n next);
-      behind = refilled_none work to n _;
-    }
-
-pub sweeping_more : (dual next value new : Bool) (old work : List ℕ) (goal to n i : ℕ) → 0 < i → goal + n ≤ to → to + n ≤ length work → new ≡ step_back dual (row work to (i - 1)) (row work goal (i - 1)) value → Sweeping dual next value old work goal to n i → Sweeping dual next new old (set work (to + (i - 1)) (bool_byte new)) goal to n (i - 1)
-sweeping_more dual next value new old work goal to n i p below room e s =
+pub sweeping_more : (dual next value new : Bool) (old bytes goal : List ℕ) (n i : ℕ) → 0 < i → new ≡ step_back dual (lit bytes (i - 1)) (lit goal (i - 1)) value → Sweeping dual next value old bytes goal n i → Sweeping dual next new old (set bytes (i - 1) (bool_byte new)) goal n (i - 1)
+sweeping_more dual next value new old bytes goal n i p e s =
     let l : i ≤ n = s.bound in
     let z : i - 1 + 1 ≡ i = omega arith in
-    let stay : row work to (i - 1) ≡ row old to (i - 1) = ap (λ (x : ℕ). not (eqb x 0)) (s.behind.kept (to + (i - 1)) (omega arith)) in
-    let aim : row work goal (i - 1) ≡ row old goal (i - 1) = ap (λ (x : ℕ). not (eqb x 0)) (s.behind.kept (goal + (i - 1)) (omega arith)) in
-    let is : new ≡ swept dual (row old to) (row old goal) n next (n - (i - 1)) =
+    let is : new ≡ swept dual (lit old) (lit goal) n next (n - (i - 1)) =
     e
-    ∙ ap (λ (x : Bool). step_back dual x (row work goal (i - 1)) value) stay
-    ∙ ap (λ (x : Bool). step_back dual (row old to (i - 1)) x value) aim
-    ∙ ap (step_back dual (row old to (i - 1)) (row old goal (i - 1))) s.at_hand
-    ∙ sym (swept_back dual (row old to) (row old goal) n next i p l)
+    ∙ ap (λ (x : Bool). step_back dual x (lit goal (i - 1)) value) (s.behind.kept (i - 1) (omega arith))
+    ∙ ap (step_back dual (lit old (i - 1)) (lit goal (i - 1))) s.at_hand
+    ∙ sym (swept_back dual (lit old) (lit goal) n next i p l)
     in
     record {
       bound = omega arith;
       at_hand = is;
-      behind = refilled_more old work to n (i - 1) _ new (omega arith) (rw z s.behind) is;
-    }
-
-pub sweeping_all : (dual next value : Bool) (old work : List ℕ) (goal to n i : ℕ) → i ≤ 0 → Sweeping dual next value old work goal to n i → Filled old work to n (λ j. swept dual (row old to) (row old goal) n next (n - j))
-sweeping_all dual next value old work goal to n i z s =
-    record {
-      kept = λ j l. s.behind.kept j (omega arith);
-      made = λ j l. s.behind.made j (omega arith) l;
+      behind = sinking_more old bytes n (i - 1) _ new (omega arith) (rw z s.behind) is;
     }
 
 -- a row before the written one is as it was
@@ -157,39 +134,38 @@ infix_start And left right = left && right
 infix_start Until left right = left
 infix_start Release left right = left
 
--- both sweeps over a started row
-pub settled_row : (dual : Bool) (old mid new : List ℕ) (to n u goal : ℕ) (stay : ℕ → Bool) → u < n → goal + n ≤ to → Filled old mid to n stay → Filled mid new to n (settled dual (row mid to) (row mid goal) n u) → Filled old new to n (infixed n u (swept_infix dual) stay (row old goal))
-settled_row dual old mid new to n u goal stay h room start sweeps =
+-- a started row of F, G, U or R, settled
+settled_row : (dual : Bool) (start new goal : List ℕ) (n u : ℕ) (stay : ℕ → Bool) → u < n → Holds start n stay → Holds new n (settled dual (lit start) (lit goal) n u) → Holds new n (infixed n u (swept_infix dual) stay (lit goal))
+settled_row dual start new goal n u stay h started sweeps =
     record {
-      kept = λ j l. sweeps.kept j l ∙ start.kept j l;
-      made = λ i l.
-          sweeps.made i l
-          ∙ settled_agree dual (row mid to) stay (row mid goal) (row old goal) n u start.made (λ j b. row_kept old mid to n goal stay start j (omega arith)) i
-          ∙ sym (infix_settled dual n u h stay (row old goal) i l);
+      long = sweeps.long;
+      each = λ i l.
+          sweeps.each i l
+          ∙ settled_agree dual (lit start) stay (lit goal) (lit goal) n u started.each (λ j b. refl) i
+          ∙ sym (infix_settled dual n u h stay (lit goal) i l);
     }
 
-pub filled_as : (old new : List ℕ) (to n : ℕ) (v w : ℕ → Bool) → ((i : ℕ) → i < n → v i ≡ w i) → Filled old new to n v → Filled old new to n w
-filled_as old new to n v w e f = record { kept = f.kept; made = λ i l. f.made i l ∙ e i l }
+pub holds_as : (bytes : List ℕ) (n : ℕ) (v w : ℕ → Bool) → ((i : ℕ) → i < n → v i ≡ w i) → Holds bytes n v → Holds bytes n w
+holds_as bytes n v w e f = record { long = f.long; each = λ i l. f.each i l ∙ e i l }
 
--- F, G, U and R: the started row, then both sweeps
+-- F and G: the started row, settled
 abbrev pub swept_prefix : Bool → Prefix
 swept_prefix dual = cond dual Globally Finally
 
-pub prefix_settled : (dual : Bool) (op : Prefix) (old mid new : List ℕ) (to n u operand : ℕ) → op ≡ swept_prefix dual → u < n → operand + n ≤ to → Filled old mid to n (λ i. prefix_start op (row old operand i) (row old operand (after n u i))) → Filled mid new to n (settled dual (row mid to) (row mid operand) n u) → Filled old new to n (prefixed n u op (row old operand))
-prefix_settled true op old mid new to n u operand e h room start sweeps =
+pub prefix_settled : (dual : Bool) (op : Prefix) (start new operand : List ℕ) (n u : ℕ) → op ≡ swept_prefix dual → u < n → Holds start n (λ i. prefix_start op (lit operand i) (lit operand (after n u i))) → Holds new n (settled dual (lit start) (lit operand) n u) → Holds new n (prefixed n u op (lit operand))
+prefix_settled true op start new operand n u e h started sweeps =
     rw e
-    (filled_as old new to n (infixed n u Release (λ i. false) (row old operand)) _ (λ i l. sym (globally_release n u (row old operand) i))
-    (settled_row true old mid new to n u operand (λ i. false) h room (rw e at start) sweeps))
-prefix_settled false op old mid new to n u operand e h room start sweeps =
+    (holds_as new n (infixed n u Release (λ i. false) (lit operand)) _ (λ i l. sym (globally_release n u (lit operand) i))
+    (settled_row true start new operand n u (λ i. false) h (rw e at started) sweeps))
+prefix_settled false op start new operand n u e h started sweeps =
     rw e
-    (filled_as old new to n (infixed n u Until (λ i. true) (row old operand)) _ (λ i l. sym (finally_until n u (row old operand) i))
-    (settled_row false old mid new to n u operand (λ i. true) h room (rw e at start) sweeps))
+    (holds_as new n (infixed n u Until (λ i. true) (lit operand)) _ (λ i l. sym (finally_until n u (lit operand) i))
+    (settled_row false start new operand n u (λ i. true) h (rw e at started) sweeps))
 
-pub infix_settled_row : (dual : Bool) (op : Infix) (old mid new : List ℕ) (to n u left right : ℕ) → op ≡ swept_infix dual → u < n → right + n ≤ to → Filled old mid to n (λ i. infix_start op (row old left i) (row old right i)) → Filled mid new to n (settled dual (row mid to) (row mid right) n u) → Filled old new to n (infixed n u op (row old left) (row old right))
-infix_settled_row true op old mid new to n u left right e h room start sweeps =
-    rw e (settled_row true old mid new to n u right (row old left) h room (rw e at start) sweeps)
-infix_settled_row false op old mid new to n u left right e h room start sweeps =
-    rw e (settled_row false old mid new to n u right (row old left) h room (rw e at start) sweeps)
+-- U and R
+pub infix_settled_row : (dual : Bool) (op : Infix) (start new left right : List ℕ) (n u : ℕ) → op ≡ swept_infix dual → u < n → Holds start n (λ i. infix_start op (lit left i) (lit right i)) → Holds new n (settled dual (lit start) (lit right) n u) → Holds new n (infixed n u op (lit left) (lit right))
+infix_settled_row true op start new left right n u e h started sweeps = rw e (settled_row true start new right n u (lit left) h (rw e at started) sweeps)
+infix_settled_row false op start new left right n u e h started sweeps = rw e (settled_row false start new right n u (lit left) h (rw e at started) sweeps)
 
 -- the rows of operands stand below
 pub row_below : (f k n : ℕ) → f < k → f * n + n ≤ k * n
@@ -245,6 +221,36 @@ part_truth ps labels work u k h rows (Binary op f g location) s i l =
     let parts = both_true (ltb f k) (ltb g k) s in
     infixed_agree (length labels) u h op (row work (f * length labels)) (truth (get_or (formulas ps) f (constant false)) labels u) (row work (g * length labels)) (truth (get_or (formulas ps) g (constant false)) labels u) (rows.at f (ltb-true f k parts.0)) (rows.at g (ltb-true g k parts.1)) i l
 
+-- the rows of a table cut at a row: those below it, and from it on
+module _ (work below rest : List ℕ) (cut : work ≡ below ++ rest) where
+  below_is : (from i : ℕ) → from + i < length below → row below from i ≡ row work from i
+  below_is from i l = ap (λ (x : ℕ). not (eqb x 0)) (sym (rw cut (get_or-append below rest 0 (from + i) l)))
+
+  -- a row put there
+  pub filled_row : (bytes tail : List ℕ) (to n : ℕ) (v w : ℕ → Bool) → length below ≡ to → Holds bytes n v → ((i : ℕ) → i < n → v i ≡ w i) → Filled work (below ++ (bytes ++ tail)) to n w
+  filled_row bytes tail to n v w long h e =
+      record {
+        kept = λ j l.
+            let l' : j < length below = omega arith in
+            get_or-append below (bytes ++ tail) 0 j l' ∙ sym (rw cut (get_or-append below rest 0 j l'));
+        made = λ i l.
+            ap (λ (x : ℕ). not (eqb x 0))
+            (rw (← long) (get_or-append-add below (bytes ++ tail) i 0 ∙ get_or-append bytes tail 0 i (rw h.long l)))
+            ∙ h.each i l
+            ∙ e i l;
+      }
+
+  -- an operator's values, from rows of its operands below
+  pub prefix_value : (operand : List ℕ) (m n u f : ℕ) (op : Prefix) → n ≡ m → u < n → f * n + n ≤ length below → ((i : ℕ) → i < n → lit operand i ≡ row below (f * n) i) → (i : ℕ) → i < n → prefixed n u op (lit operand) i ≡ prefixed m u op (row work (f * m)) i
+  prefix_value operand m n u f op same h room e i l =
+      subst (λ (k : ℕ). prefixed n u op (lit operand) i ≡ prefixed k u op (row work (f * k)) i) same
+      (prefixed_agree n u h op (lit operand) (row work (f * n)) (λ j b. e j b ∙ below_is (f * n) j (omega arith)) i l)
+
+  pub infix_value : (left right : List ℕ) (m n u f g : ℕ) (op : Infix) → n ≡ m → u < n → f * n + n ≤ length below → g * n + n ≤ length below → ((i : ℕ) → i < n → lit left i ≡ row below (f * n) i) → ((i : ℕ) → i < n → lit right i ≡ row below (g * n) i) → (i : ℕ) → i < n → infixed n u op (lit left) (lit right) i ≡ infixed m u op (row work (f * m)) (row work (g * m)) i
+  infix_value left right m n u f g op same h room room' e e' i l =
+      subst (λ (k : ℕ). infixed n u op (lit left) (lit right) i ≡ infixed k u op (row work (f * k)) (row work (g * k)) i) same
+      (infixed_agree n u h op (lit left) (row work (f * n)) (lit right) (row work (g * n)) (λ j b. e j b ∙ below_is (f * n) j (omega arith)) (λ j b. e' j b ∙ below_is (g * n) j (omega arith)) i l)
+
 -- operands of a sound part
 pub sound_unary : (k : ℕ) (p : Part) (op : Prefix) (f location : ℕ) → p ≡ Unary op f location → sound_part k p ≡ true → f < k
 sound_unary k p op f location e s = ltb-true f k (rw e at s)
@@ -253,10 +259,6 @@ pub sound_binary : (k : ℕ) (p : Part) (op : Infix) (f g location : ℕ) → p 
 sound_binary k p op f g location e s =
     let parts = both_true (ltb f k) (ltb g k) (rw e at s) in
     (ltb-true f k parts.0, ltb-true g k parts.1)
-
--- no row yet, one row more, and the last row's first value
-pub rows_none : (ps : List Part) (labels work : List ℕ) (u : ℕ) → Rows ps labels u work 0
-rows_none ps labels work u = record { at = λ j l i b. absurd (omega arith) }
 
 pub rows_more : (ps : List Part) (labels old new : List ℕ) (u k n : ℕ) (e : Part) → n ≡ length labels → u < n → sound ps ≡ true → k < length ps → Rows ps labels u old k → Filled old new (k * n) n (part_value old labels u (get_or ps k e)) → Rows ps labels u new (k + 1)
 rows_more ps labels old new u k n e same h s l rows filled =
@@ -276,8 +278,3 @@ rows_more ps labels old new u k n e same h s l rows filled =
                 ∙ ap (λ (g : Formula). truth g labels u i) (sym (formula_at ps k e s l)))
           ];
     }
-
-pub rows_all : (ps : List Part) (labels work : List ℕ) (u k n : ℕ) → n ≡ length labels → u < n → 0 < length ps → length ps ≤ k → Rows ps labels u work k → lit work ((length ps - 1) * n) ≡ truth (whole_formula ps) labels u 0
-rows_all ps labels work u k n same h some l rows =
-    let z : (length ps - 1) * n ≡ (length ps - 1) * length labels + 0 = ap (λ (m : ℕ). (length ps - 1) * m) same ∙ sym (add-zero ((length ps - 1) * length labels)) in
-    ap (lit work) z ∙ rows.at (length ps - 1) (omega arith) 0 (omega arith)

@@ -12,12 +12,12 @@ abbrev pub all_named : Pile → Bool
 all_named (Drawn d) = true
 all_named (Filed f) = true
 all_named (Open f) = false
-all_named (Pair' p left q right) = all_named left && all_named right
-all_named (Bar' event p below) = all_named below
+all_named (Pair' p left right) = all_named left && all_named right
+all_named (Bar' p event below) = all_named below
 
 abbrev pub pile_names : Pile → ℕ → List ℕ
 pile_names (Drawn d) = key_name
-pile_names (Filed f) = file_name f.events
+pile_names (Filed f) = file_name f.outline.events
 pile_names (Open f) = λ _. []
-pile_names (Pair' p left q right) = pair_names (pile_table left) (pile_table right) (pile_names left) (pile_names right)
-pile_names (Bar' event p below) = pile_names below
+pile_names (Pair' p left right) = pair_names (pile_table left) (pile_table right) (pile_names left) (pile_names right)
+pile_names (Bar' p event below) = pile_names below

@@ -6,7 +6,9 @@ ghost use Rattle.drawings.specs.Drawn.{drawn as table_of};
 ghost use Rattle.piles.specs.Meaning.{pile_table};
 
 use crate::pile::Pile;
+use dialogues::bar::Bar;
 use dialogues::free::Free;
+use dialogues::pair::Pair;
 use drawings::drawing::Drawing;
 use drawings::stored::Stored;
 use std::alloc::{AllocError, Global};
@@ -37,13 +39,13 @@ impl Pile {
     pub fn pair(heap: Global, left: Pile, right: Pile) -> Result<Pile, AllocError>
         ensures { IfOk result (λ p. pile_table p ≡ paired (pile_table left) (pile_table right)) }
     {
-        Ok(Pile::Pair(Box::new(heap, left)?, Box::new(heap, right)?))
+        Ok(Pile::Pair(Box::new(heap, Pair { left, right })?))
     }
 
     /// A bar of an event over a pile.
     pub fn bar(heap: Global, event: usize, below: Pile) -> Result<Pile, AllocError>
         ensures { IfOk result (λ p. pile_table p ≡ barred event (pile_table below)) }
     {
-        Ok(Pile::Bar(event, Box::new(heap, below)?))
+        Ok(Pile::Bar(Box::new(heap, Bar { event, below })?))
     }
 }

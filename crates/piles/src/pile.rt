@@ -1,5 +1,7 @@
 //! Piles.
+use dialogues::bar::Bar;
 use dialogues::free::Free;
+use dialogues::pair::Pair;
 use drawings::drawing::Drawing;
 use drawings::stored::Stored;
 
@@ -9,6 +11,6 @@ pub enum Pile {
     Drawn(Box<Drawing>),
     Filed(Stored),
     Open(Free),
-    Pair(Box<Pile>, Box<Pile>),
-    Bar(usize, Box<Pile>),
+    Pair(Box<Pair<Pile, Pile>>),
+    Bar(Box<Bar<Pile>>),
 }

@@ -16,10 +16,7 @@ fn main(rt: HostRuntime) -> anyhow::Result<()> {
 
 fn run(rt: &HostRuntime) -> anyhow::Result<()> {
     let heap = rt.alloc();
-    let file = match read_dialogue(rt) {
-        Ok(bytes) => bytes,
-        Err(_) => Vec::new(heap),
-    };
+    let file = read_dialogue(rt).unwrap_or_else(|_| Vec::new(heap));
     let mut input = Vec::new(heap);
     rt.stdin().take(MOST).read_to_end(&mut input)?;
     let answers = respond(heap, file.as_slice(), input.as_slice())?;

@@ -1,4 +1,5 @@
 pub mod Figures
+pub mod Absent
 pub mod Left
 pub mod Putting
 pub mod Lengths

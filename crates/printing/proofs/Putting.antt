@@ -1,12 +1,12 @@
 -- Texts put into a list piece by piece.
-use Rattle.std.proofs.Common.{◌≡◌, ℕ, ◌+◌, ◌-◌, ◌≤◌, Bool, false, cond, ltb, leb, List, [], ◌++◌, length, take, drop, None, Ok, Err, Option, sym, ap, ◌∙◌, ap₂, arith}
-use native.Mathlib.Decide.{dec_lt}
+use Rattle.std.proofs.Common.{◌≡◌, ℕ, ◌+◌, ◌≤◌, Bool, false, cond, ltb, List, [], ◌++◌, length, take, drop, Some, None, Ok, Err, Option, refl, sym, ap, ◌∙◌, ap₂, arith}
 use Rattle.std.proofs.lemmas.List.{append_assoc, length-append, length-take-le, take_at, take-append-drop}
 use Rattle.std.proofs.lemmas.Slice.{drop-append-drop}
-use Rattle.std.proofs.lemmas.Bool.{le-ltb, lt-leb, le-leb}
+use Rattle.std.proofs.lemmas.Bool.{le-ltb}
 use Rattle.faults.specs.Writing.{too_short}
 use Rattle.faults.specs.declared.Fault.{Fault}
 use Rattle.faults.specs.declared.Layer.TheVariants.{Check}
+use Rattle.tables.specs.Files.{told}
 use Rattle.printing.specs.Printed.{print_answer, print_list}
 
 -- a line put at its place leaves less to put behind it
@@ -56,10 +56,7 @@ printed fault text out out' end none h e is =
       is ∙ ap (λ (b : Bool). cond b out (text ++ drop (length text) out)) t ∙ ap (λ (f : Option Fault). print_list f text out) none,
     )
 
--- texts of these lengths fit together if the second fits the room that the first leaves
-pub leb_behind : (n m : ℕ) {n' m' k : ℕ} (room : ℕ) → n ≡ n' → m ≡ m' → n ≤ room → k ≡ n' + m' → leb m (room - n) ≡ leb k room
-leb_behind n m {n'} {m'} {k} room en em h ek =
-    elim (dec_lt room k) [
-      | yes l ↦ lt-leb m (room - n) (omega arith) ∙ sym (lt-leb k room l)
-      | no l ↦ le-leb m (room - n) (omega arith) ∙ sym (le-leb k room (omega arith))
-    ]
+-- no refusal, no fault
+pub no_fault : (o : Option Fault) (u : Unit {0}) → Ok u ≡ told o → None ≡ o
+no_fault None u e = refl
+no_fault (Some fault) u e = let clash : ◌≡◌ {A = ℕ} 0 1 = cc in absurd (omega arith)

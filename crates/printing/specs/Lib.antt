@@ -1,4 +1,3 @@
-pub mod Line
 pub mod Text
 pub mod Refusal
 pub mod Printed

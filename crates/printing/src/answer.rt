@@ -1,9 +1,8 @@
 //! Answers of a check, and the parts of their texts.
 ghost use Rattle.std.specs.Prelude.{◌≡◌};
-ghost use Rattle.printing.specs.Line.{held};
 ghost use Rattle.printing.specs.Text.{first_line, entries_of, entry_line};
 
-use crate::line::Line;
+use crate::line::{Line, letter_line, number_line, push_bytes, push_decimal};
 use dialogues::named::Named;
 use faults::Fault;
 use unfolding::Press;
@@ -24,13 +23,13 @@ pub enum Answer<'a> {
 
 /// The line that every answer begins with.
 pub(crate) fn first_line(answer: Answer) -> Line
-    ensures { held result ≡ first_line answer.entry }
+    ensures { result.items ≡ first_line answer.entry }
 {
     match answer {
-        Answer::Holds => Line::plain(b'H'),
-        Answer::Refused(fault) => Line::numbers(b'R', fault.cause.number() as usize, fault.place),
+        Answer::Holds => letter_line(b'H'),
+        Answer::Refused(fault) => number_line(b'R', fault.cause.number() as usize, fault.place),
         Answer::Broken { lead_in, entries } => {
-            Line::numbers(b'B', lead_in, entries.len().saturating_sub(lead_in))
+            number_line(b'B', lead_in, entries.len().saturating_sub(lead_in))
         }
     }
 }
@@ -47,12 +46,14 @@ pub(crate) fn entries_of<'a>(answer: Answer<'a>) -> &'a [Press]
 
 /// The line of an entry.
 pub(crate) fn entry_line<D: Named>(entry: Press, dialogue: &D) -> Line
-    ensures { held result ≡ entry_line (D.Named.names dialogue.now) entry }
+    ensures { result.items ≡ entry_line (D.Named.names dialogue.now) entry }
 {
     let mut line = Line::new();
-    line.push_decimal(entry.state as usize);
+    push_decimal(&mut line, entry.state as usize);
     line.push(b' ');
-    line.push_name(dialogue.name(entry.event as usize));
+    if let Some(name) = dialogue.name(entry.event as usize) {
+        push_bytes(&mut line, name.as_bytes());
+    }
     line.push(b'\n');
     line
 }

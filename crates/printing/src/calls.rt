@@ -5,7 +5,7 @@ ghost use Rattle.printing.specs.Refusal.{fault_of};
 ghost use Rattle.printing.specs.Text.{text};
 
 use crate::answer::{Answer, entries_of, first_line};
-use crate::refusal::fault_of;
+use crate::refusal::admit;
 use crate::writing::{entries_fit, put_entries, put_line};
 use dialogues::named::Named;
 use faults::{Cause, Fault, Layer};
@@ -16,15 +16,9 @@ pub fn print<D: Named>(answer: Answer, dialogue: &D, out: &mut [u8]) -> Result<u
     ensures answer { result ≡ print_answer (fault_of (D.Dialogue.table dialogue.now) answer.entry) (text (D.Named.names dialogue.now) answer.entry) out.old }
     ensures list { out.new ≡ print_list (fault_of (D.Dialogue.table dialogue.now) answer.entry) (text (D.Named.names dialogue.now) answer.entry) out.old }
 {
-    if let Some(fault) = fault_of(answer, dialogue) {
-        return Err(fault);
-    }
+    admit(answer, dialogue)?;
     if !fits(answer, dialogue, out.len()) {
-        return Err(Fault {
-            cause: Cause::ListTooShort,
-            place: 1,
-            layer: Layer::Check,
-        });
+        return Err(Layer::Check.refusal(Cause::ListTooShort, 1));
     }
     let end = put_line(&first_line(answer), out, 0);
     Ok(put_entries(entries_of(answer), dialogue, out, end))
@@ -34,6 +28,6 @@ pub fn print<D: Named>(answer: Answer, dialogue: &D, out: &mut [u8]) -> Result<u
 fn fits<D: Named>(answer: Answer, dialogue: &D, room: usize) -> bool
     ensures { result ≡ nat_le (length (text (D.Named.names dialogue.now) answer.entry)) room }
 {
-    let count = first_line(answer).as_bytes().len();
+    let count = first_line(answer).len();
     count <= room && entries_fit(entries_of(answer), dialogue, room - count)
 }

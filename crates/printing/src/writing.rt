@@ -1,7 +1,7 @@
 //! Lines put into a lent list, one behind another.
 ghost use Rattle.std.specs.Prelude.{◌≡◌, ◌+◌, ◌≤◌, ◌++◌, length, take, drop, nat_le};
 ghost use Rattle.std.specs.List.{flat_map};
-ghost use Rattle.printing.specs.Line.{held};
+ghost use Rattle.arrayvec.specs.ArrayVec.{array_vec_len};
 ghost use Rattle.printing.specs.Text.{entry_line};
 
 use crate::answer::entry_line;
@@ -15,11 +15,10 @@ pub(crate) fn entries_fit<D: Named>(entries: &[Press], dialogue: &D, room: usize
 {
     let mut left = room;
     for entry in entries {
-        let count = entry_line(*entry, dialogue).as_bytes().len();
-        if left < count {
-            return false;
+        match left.checked_sub(entry_line(*entry, dialogue).len()) {
+            Some(less) => left = less,
+            None => return false,
         }
-        left -= count;
     }
     true
 }
@@ -44,11 +43,11 @@ pub(crate) fn put_entries<D: Named>(
 
 /// Writes a line from the place `at` on, and answers the place behind it.
 pub(crate) fn put_line(line: &Line, out: &mut [u8], at: usize) -> usize
-    requires { at + length (held line.now) ≤ length out.old }
-    ensures end { result ≡ at + length (held line.now) }
-    ensures bytes { out.new ≡ take at out.old ++ (held line.now ++ drop result out.old) }
+    requires { at + array_vec_len line.now ≤ length out.old }
+    ensures end { result ≡ at + array_vec_len line.now }
+    ensures bytes { out.new ≡ take at out.old ++ (line.now.items ++ drop result out.old) }
 {
-    let bytes = line.as_bytes();
+    let bytes = line.as_slice();
     let end = at + bytes.len();
     out[at..end].copy_from_slice(bytes);
     end

@@ -3,7 +3,7 @@ use Rattle.std.specs.Prelude.{ℕ, Bool, false, cond, List, [], ◌∷◌, take,
 use Rattle.formulas.specs.declared.Part.{Part}
 use Rattle.formulas.specs.Formula.{Formula, constant}
 use Rattle.formulas.specs.Written.{written_at}
-use Rattle.formulas.specs.Table.{formulas, whole_formula, whole_locations}
+use Rattle.formulas.specs.Table.{formulas, whole_formula}
 use Rattle.rules.specs.declared.rule.Rule.{Rule}
 
 -- its parts
@@ -13,10 +13,6 @@ table r = take r.count r.parts
 -- its formula: what its last part stands for
 abbrev pub formula : Rule → Formula
 formula r = whole_formula (table r)
-
--- the locations of its temporal operators, from the left
-abbrev pub numbering : Rule → List ℕ
-numbering r = whole_locations (table r)
 
 -- a bracket, where it is wanted
 abbrev pub bracket_if : Bool → ℕ → List ℕ

@@ -5,6 +5,5 @@ pub mod laws;
 mod reader;
 mod reading;
 pub mod rule;
-mod signs;
 
 pub use reading::read;

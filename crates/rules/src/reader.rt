@@ -1,4 +1,5 @@
 //! The state of reading a rule text, byte by byte: the parts that are complete, and the frames that wait.
+use arrayvec::ArrayVec;
 use formulas::{Infix, Part, Prefix};
 
 pub mod acts;
@@ -6,8 +7,9 @@ pub mod steps;
 
 /// What waits for the operand that comes next: a bracket to be closed, a prefix operator with its location, or an
 /// infix operator with its left operand and its location.
-#[derive(Clone, Copy)]
+#[derive(Clone, Copy, Default)]
 pub enum Frame {
+    #[default]
     Bracket,
     Waiting(Prefix, usize),
     Halfway(Infix, usize, usize),
@@ -23,12 +25,10 @@ pub enum Mode {
 
 /// A reader in the midst of a text: the complete parts, the frames that wait, the newest last, and how many temporal
 /// operators there were.
-#[derive(Clone, Copy)]
+#[derive(Drop)]
 pub struct Reader {
-    parts: [Part; 128],
-    count: usize,
-    frames: [Frame; 128],
-    depth: usize,
+    parts: ArrayVec<Part, 128>,
+    frames: ArrayVec<Frame, 128>,
     mode: Mode,
     temporals: usize,
 }

@@ -2,9 +2,8 @@
 ghost use Rattle.rules.specs.Refusal.{Answered};
 
 use crate::reader::Reader;
-use crate::reader::steps::refusal;
 use crate::rule::Rule;
-use faults::{Cause, Fault};
+use faults::{Cause, Fault, Layer};
 
 /// The most bytes of a rule text.
 const LONGEST: usize = 128;
@@ -14,7 +13,7 @@ pub fn read(text: &[u8]) -> Result<Rule, Fault>
     ensures { Answered text.now result }
 {
     if text.len() > LONGEST {
-        return Err(refusal(Cause::TextTooLong, LONGEST));
+        return Err(Layer::Rule.refusal(Cause::TextTooLong, LONGEST));
     }
     let mut reader = Reader::new();
     for (place, byte) in text.iter().enumerate() {

@@ -3,7 +3,7 @@ ghost use Rattle.std.specs.Prelude.{◌≤◌};
 
 use crate::listed::Listed;
 use anyhow::anyhow;
-use search::{Frame, Root, Slot, survey};
+use search::{Frame, Lists, Root, Slot, survey};
 use std::alloc::{AllocError, Global};
 use std::time::Instant;
 
@@ -13,18 +13,18 @@ const RUNS: u32 = 15;
 /// The longest time that is told, in nanoseconds.
 const LONGEST: u64 = 1_000_000_000_000;
 
-/// The lists that a search takes.
+/// The memory of a search.
 #[derive(Drop)]
-struct Lists {
+struct Memory {
     marks: Vec<u8>,
     slots: Vec<Slot>,
     trail: Vec<Frame>,
     roots: Vec<Root>,
 }
 
-impl Lists {
-    fn new(heap: Global, nodes: usize) -> Result<Lists, AllocError> {
-        Ok(Lists {
+impl Memory {
+    fn new(heap: Global, nodes: usize) -> Result<Memory, AllocError> {
+        Ok(Memory {
             marks: vec![in heap; 0u8; nodes]?,
             slots: vec![in heap; Slot::default(); nodes]?,
             trail: vec![in heap; Frame::default(); nodes]?,
@@ -33,27 +33,19 @@ impl Lists {
     }
 
     fn search(&mut self, graph: &Listed) -> anyhow::Result<()> {
-        match survey(
-            graph,
-            self.marks.as_mut_slice(),
-            self.slots.as_mut_slice(),
-            self.trail.as_mut_slice(),
-            self.roots.as_mut_slice(),
-        ) {
-            Ok(_) => Ok(()),
-            Err(_) => Err(anyhow!("a list is too short")),
-        }
+        let lists = Lists {
+            marks: self.marks.as_mut_slice(),
+            slots: self.slots.as_mut_slice(),
+            trail: self.trail.as_mut_slice(),
+            roots: self.roots.as_mut_slice(),
+        };
+        survey(graph, lists).map_err(|_| anyhow!("a list is too short"))?;
+        Ok(())
     }
 
     /// How many marks are at least `mark`.
     fn count(&self, mark: u8) -> usize {
-        let mut count = 0usize;
-        for m in self.marks.as_slice() {
-            if *m >= mark {
-                count = count.wrapping_add(1);
-            }
-        }
-        count
+        self.marks.iter().filter(|m| **m >= mark).count()
     }
 }
 
@@ -72,28 +64,22 @@ fn scatter(heap: Global, count: usize, range: u32) -> Result<Vec<u32>, AllocErro
 
 /// How many of the numbers are nodes.
 fn count_steps(targets: &[u32], nodes: u32) -> usize {
-    let mut count = 0usize;
-    for target in targets {
-        if *target < nodes {
-            count = count.wrapping_add(1);
-        }
-    }
-    count
+    targets.iter().filter(|target| **target < nodes).count()
 }
 
 /// 50 nodes with two steps each, of which a third is missing.
 pub fn show_small(rt: &HostRuntime) -> anyhow::Result<()> {
     let heap = rt.alloc();
     let targets = scatter(heap, 100, 75)?;
-    let mut lists = Lists::new(heap, 50)?;
-    lists.search(&Listed {
+    let mut memory = Memory::new(heap, 50)?;
+    memory.search(&Listed {
         targets: targets.as_slice(),
         nodes: 50,
         degree: 2,
     })?;
     let steps = count_steps(targets.as_slice(), 50);
-    let reached = lists.count(1);
-    let able = lists.count(2);
+    let reached = memory.count(1);
+    let able = memory.count(2);
     println!(rt; "nodes 50 steps {steps} reached {reached} return {able}")?;
     Ok(())
 }
@@ -102,19 +88,15 @@ pub fn show_small(rt: &HostRuntime) -> anyhow::Result<()> {
 fn capped(nanos: u128) -> u64
     ensures { result ≤ 1000000000000 }
 {
-    if nanos < 1_000_000_000_000 {
-        nanos as u64
-    } else {
-        LONGEST
-    }
+    nanos.min(u128::from(LONGEST)) as u64
 }
 
 /// The shortest time of some searches, in nanoseconds.
-fn best_time(rt: &HostRuntime, graph: &Listed, lists: &mut Lists) -> anyhow::Result<u64> {
+fn best_time(rt: &HostRuntime, graph: &Listed, memory: &mut Memory) -> anyhow::Result<u64> {
     let mut best = LONGEST;
     for _ in 0..RUNS {
         let start = Instant::now(rt)?;
-        lists.search(graph)?;
+        memory.search(graph)?;
         best = best.min(capped(start.elapsed(rt)?.as_nanos()));
     }
     Ok(best)
@@ -128,14 +110,14 @@ pub fn time_random(rt: &HostRuntime, nodes: u32) -> anyhow::Result<()> {
     let heap = rt.alloc();
     let steps = nodes as usize * 4;
     let targets = scatter(heap, steps, nodes)?;
-    let mut lists = Lists::new(heap, nodes as usize)?;
+    let mut memory = Memory::new(heap, nodes as usize)?;
     let graph = Listed {
         targets: targets.as_slice(),
         nodes,
         degree: 4,
     };
-    let best = best_time(rt, &graph, &mut lists)?;
-    let reached = lists.count(1);
+    let best = best_time(rt, &graph, &mut memory)?;
+    let reached = memory.count(1);
     let pico = best.min(LONGEST) * 1000 / steps as u64;
     let whole = pico / 1000;
     let part = pico % 1000;

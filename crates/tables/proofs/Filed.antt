@@ -80,15 +80,6 @@ module _ (bytes : List ℕ) (n : ℕ) where
   found_miss s e p none =
       found_none s e p (λ k h a b. none k h (ap (λ (x : ℕ). x * 64 + event k) a ∙ ap (λ (x : ℕ). s * 64 + x) b))
 
-  -- the two halves of a search
-  pub lower : (p middle x : ℕ) → Ordered bytes n p → middle < p → key middle < x → (j : ℕ) → j < middle + 1 → key j < x
-  lower p middle x ordered h low j below =
-      elim (dec_lt j middle) [ yes lt ↦ omega (arith, ordered j middle lt h) | no ge ↦ let is : j ≡ middle = omega arith in rw is low ]
-
-  pub upper : (p middle x : ℕ) → Ordered bytes n p → x < key middle → (j : ℕ) → middle ≤ j → j < p → x < key j
-  upper p middle x ordered high j above h =
-      elim (dec_lt middle j) [ yes lt ↦ omega (arith, ordered middle j lt h) | no ge ↦ let is : j ≡ middle = omega arith in rw is high ]
-
   pub filed_formed : (m p : ℕ) → n ≤ 4096 → m ≤ 64 → Exist bytes n m p → Formed (filed bytes n m p)
   filed_formed m p few most exist =
       record {

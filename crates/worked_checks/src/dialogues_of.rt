@@ -40,8 +40,7 @@ pub(crate) fn cut_off() -> Drawing {
 pub(crate) fn file_of(heap: Global, states: u16) -> Result<Vec<u8>, AllocError> {
     let mut bytes = Vec::new(heap);
     bytes.extend_from_slice(b"DH")?;
-    bytes.push((states % 256) as u8)?;
-    bytes.push((states / 256) as u8)?;
+    bytes.extend_from_slice(&states.to_le_bytes())?;
     bytes.push(1)?;
     for _ in 0..states {
         bytes.extend_from_slice(b"DS\x00\x00\x01")?;

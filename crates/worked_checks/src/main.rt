@@ -4,11 +4,12 @@
 mod dialogues_of;
 mod lists;
 
-use checker::Verdict;
+use checker::needs;
 use dialogues_of::{cut_off, file_of, returning, two_states};
-use lists::check_with_lists;
+use lists::Memory;
 use piles::pile::Pile;
 use rules::read;
+use rules::rule::Rule;
 use std::alloc::Global;
 
 /// Number of the event of the return key.
@@ -44,24 +45,32 @@ fn pair(heap: Global) -> anyhow::Result<Pile> {
     Ok(Pile::pair(heap, left, right)?)
 }
 
-/// Checks a rule against a dialogue, and prints the verdict, or the refusal as cause, place and layer.
+/// Reads a rule, checks it against a dialogue, and prints the verdict, or the refusal as cause, place and layer.
 fn show(rt: &HostRuntime, name: &str, pile: Pile, text: &str) -> anyhow::Result<()> {
-    let rule = match read(text.as_bytes()) {
-        Ok(rule) => rule,
-        Err(fault) => {
-            println!(rt; "{name}, {text}: refused, {fault}")?;
-            return Ok(());
-        }
-    };
-    match check_with_lists(rt.alloc(), &pile, &rule)? {
+    match read(text.as_bytes()) {
+        Ok(rule) => show_check(rt, name, &pile, &rule, text),
+        Err(fault) => Ok(println!(rt; "{name}, {text}: refused, {fault}")?),
+    }
+}
+
+fn show_check(
+    rt: &HostRuntime,
+    name: &str,
+    pile: &Pile,
+    rule: &Rule,
+    text: &str,
+) -> anyhow::Result<()> {
+    let needs = needs(pile, rule);
+    let mut memory = Memory::new(rt.alloc(), needs)?;
+    match memory.check(pile, rule) {
         Err(fault) => println!(rt; "{name}, {text}: refused, {fault}")?,
-        Ok(answer) => {
-            let word = match answer.checked.verdict {
-                Verdict::Holds => "holds",
-                Verdict::Broken(_) => "broken",
+        Ok(checked) => {
+            let word = if checked.broken.is_none() {
+                "holds"
+            } else {
+                "broken"
             };
-            let nodes = answer.nodes;
-            println!(rt; "{name}, {text}: {word}, of {nodes} nodes")?;
+            println!(rt; "{name}, {text}: {word}, of {} nodes", needs.nodes)?;
         }
     }
     Ok(())

@@ -1,18 +1,25 @@
 //! The lines on the kept dialogue.
 use crate::drawn::event_of;
+use crate::lent::lend;
 use crate::page::Page;
+use crate::shown::{Marks, OrDash, Text};
+use crate::stop::Stop;
 use crate::words::{Words, hex_bytes, number};
 use dialogues::dialogue::Dialogue;
+use dialogues::name::Name;
 use dialogues::named::Named;
 use drawings::drawing::Drawing;
 use loops::loops;
 use piles::named::NamedPile;
 use piles::pile::Pile;
-use search::{Frame, Root, Slot};
-use std::alloc::{AllocError, Global};
+use search::{Frame, Lengths, Lists, Root, Slot};
+use std::alloc::Global;
 
 /// The deepest nesting of a dialogue that is read.
 const DEEPEST: usize = 1000;
+
+/// What a line is not, that should give a dialogue.
+const WANTED: &str = "drawing, file BYTES, free K, pair EXPR EXPR or bar EVENT EXPR is wanted";
 
 /// A dialogue, with names where all of its parts have them.
 #[derive(Drop)]
@@ -22,7 +29,7 @@ pub enum Kept {
 }
 
 impl Kept {
-    pub(crate) fn new(pile: Pile) -> Kept {
+    fn new(pile: Pile) -> Kept {
         match NamedPile::new(pile) {
             Ok(named) => Kept::Named(named),
             Err(pile) => Kept::Plain(pile),
@@ -36,243 +43,135 @@ impl Kept {
         }
     }
 
-    fn event(&self, word: &[u8]) -> Option<usize> {
+    /// The dialogue itself.
+    pub(crate) fn pile(&self) -> &Pile {
         match self {
-            Kept::Named(named) => event_of(named, word),
-            Kept::Plain(_) => match number(word) {
-                Some(n) => Some(n as usize),
-                None => None,
-            },
+            Kept::Plain(pile) => pile,
+            Kept::Named(named) => named.as_pile(),
         }
     }
 
-    /// The answer of `dialogue`: how many states and events there are.
-    pub(crate) fn sizes(&self) -> (usize, usize) {
+    fn event(&self, word: &[u8]) -> Option<usize> {
         match self {
-            Kept::Plain(pile) => (pile.states() as usize, pile.events() as usize),
-            Kept::Named(named) => (named.states() as usize, named.events() as usize),
+            Kept::Plain(_) => number(word).map(|n| n as usize),
+            Kept::Named(named) => event_of(named, word),
         }
+    }
+
+    fn name(&self, event: usize) -> Option<Name> {
+        match self {
+            Kept::Plain(_) => None,
+            Kept::Named(named) => named.name(event),
+        }
+    }
+
+    /// A whole line: a dialogue and nothing behind it.
+    pub(crate) fn read(heap: Global, drawing: &Drawing, words: &mut Words) -> Result<Kept, Stop> {
+        let pile = read_pile(heap, drawing, words, DEEPEST)?;
+        if !words.at_end() {
+            return Err(Stop::Unknown(WANTED));
+        }
+        Ok(Kept::new(pile))
     }
 }
 
-/// Reads a dialogue in prefix form.
-pub(crate) fn read_dialogue(
+/// Reads a dialogue in prefix form, nested no deeper than `depth`.
+fn read_pile(
     heap: Global,
     drawing: &Drawing,
     words: &mut Words,
     depth: usize,
-) -> Result<Option<Pile>, AllocError> {
-    let Some(kind) = words.next() else {
-        return Ok(None);
-    };
-    if kind == b"drawing".as_slice() {
-        return some_pile(Pile::drawn(heap, *drawing));
-    }
-    if kind == b"file".as_slice() {
-        return read_filed(heap, words);
-    }
-    if kind == b"free".as_slice() {
-        return Ok(read_free(words));
-    }
-    if depth == 0 {
-        return Ok(None);
-    }
-    if kind == b"bar".as_slice() {
-        let Some(event) = words.next() else {
-            return Ok(None);
-        };
-        let Some(below) = read_dialogue(heap, drawing, words, depth - 1)? else {
-            return Ok(None);
-        };
-        return bar(heap, event, below);
-    }
-    if kind == b"pair".as_slice() {
-        let Some(left) = read_dialogue(heap, drawing, words, depth - 1)? else {
-            return Ok(None);
-        };
-        let Some(right) = read_dialogue(heap, drawing, words, depth - 1)? else {
-            return Ok(None);
-        };
-        return some_pile(Pile::pair(heap, left, right));
-    }
-    Ok(None)
-}
-
-fn some_pile(made: Result<Pile, AllocError>) -> Result<Option<Pile>, AllocError> {
-    Ok(Some(made?))
-}
-
-fn read_filed(heap: Global, words: &mut Words) -> Result<Option<Pile>, AllocError> {
-    let Some(word) = words.next() else {
-        return Ok(None);
-    };
-    match hex_bytes(heap, word)? {
-        None => Ok(None),
-        Some(bytes) => Ok(Some(Pile::filed(bytes))),
-    }
-}
-
-fn read_free(words: &mut Words) -> Option<Pile> {
-    let n = number(words.next()?)?;
-    Some(Pile::open(n.min(u64::from(u32::MAX)) as u32))
-}
-
-fn bar(heap: Global, event: &[u8], below: Pile) -> Result<Option<Pile>, AllocError> {
-    let kept = Kept::new(below);
-    match kept.event(event) {
-        None => Ok(None),
-        Some(event) => some_pile(Pile::bar(heap, event, kept.into_pile())),
-    }
-}
-
-/// A whole line: a dialogue and nothing behind it.
-pub(crate) fn read_whole(
-    heap: Global,
-    drawing: &Drawing,
-    rest: &[u8],
-) -> Result<Option<Kept>, AllocError> {
-    let mut words = Words::new(rest);
-    match read_dialogue(heap, drawing, &mut words, DEEPEST)? {
-        None => Ok(None),
-        Some(pile) => {
-            if words.at_end() {
-                Ok(Some(Kept::new(pile)))
-            } else {
-                Ok(None)
-            }
+) -> Result<Pile, Stop> {
+    match next_word(words)? {
+        b"drawing" => Ok(Pile::drawn(heap, *drawing)?),
+        b"file" => Ok(Pile::filed(hex_bytes(heap, next_word(words)?, WANTED)?)),
+        b"free" => read_free(words),
+        b"bar" if depth > 0 => {
+            let event = next_word(words)?;
+            let below = Kept::new(read_pile(heap, drawing, words, depth - 1)?);
+            let event = below.event(event).ok_or(Stop::Unknown(WANTED))?;
+            Ok(Pile::bar(heap, event, below.into_pile())?)
         }
+        b"pair" if depth > 0 => {
+            let left = read_pile(heap, drawing, words, depth - 1)?;
+            let right = read_pile(heap, drawing, words, depth - 1)?;
+            Ok(Pile::pair(heap, left, right)?)
+        }
+        _ => Err(Stop::Unknown(WANTED)),
     }
 }
 
-/// Whether a state is a start, its label, and where an event leads from it.
-fn show_questions<D: Dialogue>(
-    dialogue: &D,
-    state: usize,
-    event: usize,
-    page: &mut Page,
-) -> Result<(), AllocError> {
-    page.text(if dialogue.is_start(state) {
-        b"= 1 "
-    } else {
-        b"= 0 "
-    })?;
-    page.number(dialogue.label(state) as usize)?;
-    page.text(b" ")?;
-    match dialogue.next(state, event) {
-        Some(next) => page.number(next as usize)?,
-        None => page.text(b"-")?,
-    }
-    page.text(b" ")
+fn next_word<'a>(words: &mut Words<'a>) -> Result<&'a [u8], Stop> {
+    words.next().ok_or(Stop::Unknown(WANTED))
+}
+
+fn read_free(words: &mut Words) -> Result<Pile, Stop> {
+    let letters = number(next_word(words)?).ok_or(Stop::Unknown(WANTED))?;
+    Ok(Pile::open(u32::try_from(letters).unwrap_or(u32::MAX)))
 }
 
 /// The questions about a state and an event.
-pub(crate) fn ask(kept: &Kept, words: &mut Words, page: &mut Page) -> Result<(), AllocError> {
-    let (Some(state), Some(word), true) = (crate::drawn::index(words), words.next(), words.at_end())
-    else {
-        return page.unknown(b"ask STATE EVENT");
+pub(crate) fn ask(kept: &Kept, words: &mut Words, page: &mut Page) -> Result<(), Stop> {
+    let (Some(state), Some(word), true) = (words.number(), words.next(), words.at_end()) else {
+        return Err(Stop::Unknown("ask STATE EVENT"));
     };
-    let Some(event) = kept.event(word) else {
-        return page.unknown(b"ask STATE EVENT");
-    };
-    match kept {
-        Kept::Plain(pile) => {
-            show_questions(pile, state, event, page)?;
-            page.text(b"-\n")
-        }
-        Kept::Named(named) => {
-            show_questions(named, state, event, page)?;
-            match named.name(event) {
-                Some(name) => page.text(name.as_bytes())?,
-                None => page.text(b"-")?,
-            }
-            page.text(b"\n")
-        }
+    let event = kept.event(word).ok_or(Stop::Unknown("ask STATE EVENT"))?;
+    let pile = kept.pile();
+    let start = u8::from(pile.is_start(state));
+    let label = pile.label(state);
+    let next = OrDash(pile.next(state, event));
+    match kept.name(event) {
+        Some(name) => page.answer(format_args!(
+            "{start} {label} {next} {}",
+            Text(name.as_bytes())
+        ))?,
+        None => page.answer(format_args!("{start} {label} {next} -"))?,
     }
+    Ok(())
 }
 
 /// The four rooms of `loops`, each what is needed where the line gives none.
-#[derive(Clone, Copy)]
-pub struct Rooms {
-    marks: usize,
-    slots: usize,
-    trail: usize,
-    roots: usize,
-}
-
-fn read_rooms(words: &mut Words, need: usize) -> Option<Rooms> {
+fn read_rooms(words: &mut Words, need: usize) -> Option<Lengths> {
     if words.at_end() {
-        return Some(Rooms {
+        return Some(Lengths {
             marks: need,
             slots: need,
             trail: need,
             roots: need,
         });
     }
-    let marks = crate::drawn::index(words)?;
-    let slots = crate::drawn::index(words)?;
-    let trail = crate::drawn::index(words)?;
-    let roots = crate::drawn::index(words)?;
-    if words.at_end() {
-        Some(Rooms {
-            marks,
-            slots,
-            trail,
-            roots,
-        })
-    } else {
-        None
-    }
-}
-
-fn loops_in<D: Dialogue>(
-    heap: Global,
-    dialogue: &D,
-    rooms: Rooms,
-    page: &mut Page,
-) -> Result<(), AllocError> {
-    let Ok(mut marks) = vec![in heap; 0u8; rooms.marks] else {
-        return page.unknown(b"there is not so much memory");
+    let rooms = Lengths {
+        marks: words.number()?,
+        slots: words.number()?,
+        trail: words.number()?,
+        roots: words.number()?,
     };
-    let Ok(mut slots) = vec![in heap; Slot::default(); rooms.slots] else {
-        return page.unknown(b"there is not so much memory");
-    };
-    let Ok(mut trail) = vec![in heap; Frame::default(); rooms.trail] else {
-        return page.unknown(b"there is not so much memory");
-    };
-    let Ok(mut roots) = vec![in heap; Root::default(); rooms.roots] else {
-        return page.unknown(b"there is not so much memory");
-    };
-    match loops(
-        dialogue,
-        marks.as_mut_slice(),
-        slots.as_mut_slice(),
-        trail.as_mut_slice(),
-        roots.as_mut_slice(),
-    ) {
-        Err(fault) => page.refusal(fault),
-        Ok(count) => {
-            page.text(b"= ")?;
-            page.number(count)?;
-            page.text(b" ")?;
-            page.marks(marks.as_slice(), dialogue.states() as usize)?;
-            page.text(b"\n")
-        }
-    }
+    words.at_end().then_some(rooms)
 }
 
 /// Marks the states of the kept dialogue.
 pub(crate) fn mark_loops(
     heap: Global,
-    kept: &Kept,
-    rest: &[u8],
+    pile: &Pile,
+    words: &mut Words,
     page: &mut Page,
-) -> Result<(), AllocError> {
-    let (states, _) = kept.sizes();
-    let Some(rooms) = read_rooms(&mut Words::new(rest), states) else {
-        return page.unknown(b"loops, or loops ROOM ROOM ROOM ROOM");
+) -> Result<(), Stop> {
+    let states = pile.states() as usize;
+    let rooms = read_rooms(words, states).ok_or(Stop::Unknown(
+        "loops, or loops ROOM ROOM ROOM ROOM",
+    ))?;
+    let mut marks = lend(heap, 0u8, rooms.marks)?;
+    let mut slots = lend(heap, Slot::default(), rooms.slots)?;
+    let mut trail = lend(heap, Frame::default(), rooms.trail)?;
+    let mut roots = lend(heap, Root::default(), rooms.roots)?;
+    let lists = Lists {
+        marks: marks.as_mut_slice(),
+        slots: slots.as_mut_slice(),
+        trail: trail.as_mut_slice(),
+        roots: roots.as_mut_slice(),
     };
-    match kept {
-        Kept::Plain(pile) => loops_in(heap, pile, rooms, page),
-        Kept::Named(named) => loops_in(heap, named, rooms, page),
-    }
+    let count = loops(pile, lists)?;
+    marks.truncate(states);
+    page.answer(format_args!("{count} {}", Marks(marks.as_slice())))?;
+    Ok(())
 }

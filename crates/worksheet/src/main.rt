@@ -5,14 +5,16 @@
 mod asked;
 mod drawn;
 mod journeys;
+mod lent;
 mod page;
 mod sheet;
+mod shown;
+mod stop;
 mod words;
 
 use page::Page;
 use sheet::Sheet;
 use std::io::{Read, Write};
-use words::split_line;
 
 fn main(rt: HostRuntime) -> anyhow::Result<()> {
     run(&rt)
@@ -23,14 +25,12 @@ fn run(rt: &HostRuntime) -> anyhow::Result<()> {
     let mut input = Vec::new(heap);
     rt.stdin().read_to_end(&mut input)?;
     let mut sheet = Sheet::new(heap);
-    let mut rest = input.as_slice();
-    while !rest.is_empty() {
-        let (line, after) = split_line(rest);
+    for line in input.as_slice().split_inclusive(|b| *b == b'\n') {
+        let line = line.strip_suffix(b"\n").unwrap_or(line);
         let mut page = Page::new(heap);
         page.echo(line)?;
         sheet.perform(line, &mut page)?;
         rt.stdout().write_all(page.bytes())?;
-        rest = after;
     }
     Ok(())
 }

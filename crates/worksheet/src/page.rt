@@ -1,16 +1,13 @@
 //! What is printed for one line.
 use faults::{Cause, Fault};
 use std::alloc::{AllocError, Global};
+use std::fmt::Display;
 
 #[derive(Drop)]
 pub struct Page {
     heap: Global,
     bytes: Vec<u8>,
 }
-
-const DIGITS: [u8; 16] = [
-    48, 49, 50, 51, 52, 53, 54, 55, 56, 57, 97, 98, 99, 100, 101, 102,
-];
 
 impl Page {
     pub(crate) fn new(heap: Global) -> Page {
@@ -24,90 +21,63 @@ impl Page {
         self.bytes.as_slice()
     }
 
-    pub(crate) fn text(&mut self, text: &[u8]) -> Result<(), AllocError> {
-        self.bytes.extend_from_slice(text)
-    }
-
-    pub(crate) fn number(&mut self, n: usize) -> Result<(), AllocError> {
-        let digits = format!(in self.heap; "{n}")?;
-        self.text(digits.as_bytes())
-    }
-
-    /// Two hexadecimal digits for each byte; `-` for none.
-    pub(crate) fn hex(&mut self, bytes: &[u8]) -> Result<(), AllocError> {
-        if bytes.is_empty() {
-            return self.text(b"-");
-        }
-        for b in bytes {
-            self.bytes.push(DIGITS[(*b / 16) as usize])?;
-            self.bytes.push(DIGITS[(*b % 16) as usize])?;
-        }
-        Ok(())
-    }
-
-    /// A digit for each of the first `count` marks; `-` for none.
-    pub(crate) fn marks(&mut self, marks: &[u8], count: usize) -> Result<(), AllocError> {
-        if count == 0 {
-            return self.text(b"-");
-        }
-        for mark in marks.iter().take(count) {
-            self.bytes.push(DIGITS[(*mark % 16) as usize])?;
-        }
-        Ok(())
-    }
-
     /// The line itself.
     pub(crate) fn echo(&mut self, line: &[u8]) -> Result<(), AllocError> {
-        self.text(b"> ")?;
-        self.text(line)?;
-        self.text(b"\n")
+        self.bytes.extend_from_slice(b"> ")?;
+        self.bytes.extend_from_slice(line)?;
+        self.bytes.extend_from_slice(b"\n")
     }
 
-    /// A line of detail.
-    pub(crate) fn detail(&mut self, text: &[u8]) -> Result<(), AllocError> {
-        self.text(b"  ")?;
-        self.text(text)?;
-        self.text(b"\n")
+    fn line<D: Display + Drop>(&mut self, sign: char, words: D) -> Result<(), AllocError> {
+        let line = format!(in self.heap; "{sign} {words}\n")?;
+        self.bytes.extend_from_slice(line.as_bytes())
+    }
+
+    /// An answer.
+    pub(crate) fn answer<D: Display + Drop>(&mut self, words: D) -> Result<(), AllocError> {
+        self.line('=', words)
     }
 
     /// The answer `= done`.
     pub(crate) fn done(&mut self) -> Result<(), AllocError> {
-        self.text(b"= done\n")
+        self.answer("done")
+    }
+
+    /// A line of detail.
+    pub(crate) fn detail(&mut self, text: &str) -> Result<(), AllocError> {
+        self.line(' ', text)
     }
 
     /// A refusal, with its cause in words.
     pub(crate) fn refusal(&mut self, fault: Fault) -> Result<(), AllocError> {
         self.detail(cause_words(fault.cause))?;
-        let shown = format!(in self.heap; "! {fault}\n")?;
-        self.text(shown.as_bytes())
+        self.line('!', fault)
     }
 
     /// A line that is not understood.
-    pub(crate) fn unknown(&mut self, why: &[u8]) -> Result<(), AllocError> {
-        self.text(b"? ")?;
-        self.text(why)?;
-        self.text(b"\n")
+    pub(crate) fn unknown(&mut self, why: &str) -> Result<(), AllocError> {
+        self.line('?', why)
     }
 }
 
-fn cause_words(cause: Cause) -> &'static [u8] {
+fn cause_words(cause: Cause) -> &'static str {
     match cause {
-        Cause::TextTooLong => b"the text has more than 128 bytes",
-        Cause::UnexpectedByte => b"with this byte the text begins no rule",
-        Cause::TextTooShort => b"the text ends too early",
-        Cause::TooManyOperators => b"this is the tenth temporal operator",
-        Cause::FileTooShort => b"the file ends early",
-        Cause::BadMark => b"no record mark that is due stands here",
-        Cause::BadRecord => b"this record has a value or an order that is not allowed",
-        Cause::TrailingBytes => b"bytes follow the end of the file",
-        Cause::NoSuchArgument => b"this argument names no state, event or start mark",
+        Cause::TextTooLong => "the text has more than 128 bytes",
+        Cause::UnexpectedByte => "with this byte the text begins no rule",
+        Cause::TextTooShort => "the text ends too early",
+        Cause::TooManyOperators => "this is the tenth temporal operator",
+        Cause::FileTooShort => "the file ends early",
+        Cause::BadMark => "no record mark that is due stands here",
+        Cause::BadRecord => "this record has a value or an order that is not allowed",
+        Cause::TrailingBytes => "bytes follow the end of the file",
+        Cause::NoSuchArgument => "this argument names no state, event or start mark",
         Cause::BadLeadIn =>
-            b"the lead-in is not below the number of entries, or there are too many entries",
-        Cause::DrawingFull => b"the drawing has no room",
-        Cause::AlreadyJoined => b"this state and event have a next state already",
-        Cause::NotJoined => b"this state and event have no next state",
-        Cause::TooManyNodes => b"more nodes than a check serves",
-        Cause::ListTooShort => b"this list is too short",
-        Cause::NoStart => b"the dialogue has no start",
+            "the lead-in is not below the number of entries, or there are too many entries",
+        Cause::DrawingFull => "the drawing has no room",
+        Cause::AlreadyJoined => "this state and event have a next state already",
+        Cause::NotJoined => "this state and event have no next state",
+        Cause::TooManyNodes => "more nodes than a check serves",
+        Cause::ListTooShort => "this list is too short",
+        Cause::NoStart => "the dialogue has no start",
     }
 }

@@ -1,13 +1,26 @@
 //! What is kept from line to line, and one line performed.
-use crate::asked::{Kept, ask, mark_loops, read_whole};
+use crate::asked::{Kept, ask, mark_loops};
 use crate::drawn;
-use crate::journeys::{Journey, read_journey, read_journey_hex};
+use crate::journeys::Journey;
+use crate::lent::{lend, room, written};
 use crate::page::Page;
-use crate::words::{Words, hex_bytes, number, split_word};
+use crate::shown::{Hex, Text};
+use crate::stop::Stop;
+use crate::words::{Words, hex_bytes, split_word};
+use dialogues::dialogue::Dialogue;
 use drawings::checks::check_file;
 use drawings::drawing::Drawing;
 use rules::rule::Rule;
 use std::alloc::{AllocError, Global};
+
+/// The longest text of a rule.
+const LONGEST_RULE: usize = 128;
+
+/// A list of this length takes the file of every drawing.
+const LONGEST_FILE: usize = 8192;
+
+/// What a line lacks that should give bytes.
+const NO_BYTES: &str = "bytes in hexadecimal are wanted, - for none";
 
 #[derive(Drop)]
 pub struct Sheet {
@@ -34,241 +47,153 @@ impl Sheet {
         if line.is_empty() || line[0] == b'#' {
             return Ok(());
         }
+        match self.answer(line, page) {
+            Ok(()) => Ok(()),
+            Err(Stop::Unknown(why)) => page.unknown(why),
+            Err(Stop::Refused(fault)) => page.refusal(fault),
+            Err(Stop::Memory(error)) => Err(error),
+        }
+    }
+
+    /// The lines on the rule and the journey.
+    fn answer(&mut self, line: &[u8], page: &mut Page) -> Result<(), Stop> {
         let (command, rest) = split_word(line);
-        if command == b"rule".as_slice() {
-            self.read_rule(rest, page)
-        } else if command == b"rule-hex".as_slice() {
-            self.read_rule_hex(rest, page)
-        } else if command == b"write".as_slice() {
-            self.write_rule(rest, page)
-        } else if command == b"journey".as_slice() {
-            let journey = read_journey(self.heap, rest)?;
-            self.keep_journey(journey, page)
-        } else if command == b"journey-hex".as_slice() {
-            let journey = read_journey_hex(self.heap, rest)?;
-            self.keep_journey(journey, page)
-        } else if command == b"judge".as_slice() {
-            self.judge_journey(rest, page)
-        } else if line == b"help".as_slice() {
-            help(page)
-        } else {
-            self.draw(command, rest, page)
+        let mut words = Words::new(rest);
+        match command {
+            b"rule" => self.read_rule(rest, page),
+            b"rule-hex" => {
+                let bytes = hex_bytes(self.heap, rest, NO_BYTES)?;
+                self.read_rule(bytes.as_slice(), page)
+            }
+            b"write" => self.write_rule(&mut words, page),
+            b"journey" => self.keep_journey(Journey::read(self.heap, &mut words)?, page),
+            b"journey-hex" => self.keep_journey(Journey::read_hex(self.heap, &mut words)?, page),
+            b"judge" => self.judge_journey(&mut words, page),
+            b"help" if line == command => Ok(help(page)?),
+            _ => self.draw(command, rest, page),
         }
     }
 
     /// The lines on the drawing.
-    fn draw(&mut self, command: &[u8], rest: &[u8], page: &mut Page) -> Result<(), AllocError> {
+    fn draw(&mut self, command: &[u8], rest: &[u8], page: &mut Page) -> Result<(), Stop> {
         let mut words = Words::new(rest);
-        if command == b"new".as_slice() && words.at_end() {
-            self.drawing = Drawing::new();
-            page.done()
-        } else if command == b"wipe".as_slice() && words.at_end() {
-            self.drawing.wipe();
-            page.done()
-        } else if command == b"add".as_slice() {
-            drawn::add(&mut self.drawing, &mut words, page)
-        } else if command == b"relabel".as_slice() {
-            drawn::relabel(&mut self.drawing, &mut words, page)
-        } else if command == b"join".as_slice() {
-            drawn::join(&mut self.drawing, &mut words, page)
-        } else if command == b"cut".as_slice() {
-            drawn::cut(&mut self.drawing, &mut words, page)
-        } else if command == b"take".as_slice() {
-            drawn::take(self.heap, &mut self.drawing, rest, page)
-        } else if command == b"file".as_slice() {
-            self.write_file(rest, page)
-        } else {
-            self.consult(command, rest, page)
+        let drawing = &mut self.drawing;
+        match command {
+            b"new" if words.at_end() => *drawing = Drawing::new(),
+            b"wipe" if words.at_end() => drawing.wipe(),
+            b"add" => return drawn::add(drawing, &mut words, page),
+            b"relabel" => drawn::relabel(drawing, &mut words)?,
+            b"join" => drawn::join(drawing, &mut words)?,
+            b"cut" => drawn::cut(drawing, &mut words)?,
+            b"take" => drawing.take(hex_bytes(self.heap, rest, NO_BYTES)?.as_slice())?,
+            b"file" => return self.write_file(&mut words, page),
+            _ => return self.consult(command, rest, page),
         }
+        Ok(page.done()?)
     }
 
     /// The lines on files and on the kept dialogue.
-    fn consult(&mut self, command: &[u8], rest: &[u8], page: &mut Page) -> Result<(), AllocError> {
-        if command == b"fault".as_slice() {
-            self.tell_fault(rest, page)
-        } else if command == b"dialogue".as_slice() {
-            let kept = read_whole(self.heap, &self.drawing, rest)?;
-            self.keep_dialogue(kept, page)
-        } else if command == b"ask".as_slice() || command == b"loops".as_slice() {
-            let Some(kept) = &self.dialogue else {
-                return page.unknown(b"no dialogue is kept");
-            };
-            if command == b"ask".as_slice() {
-                ask(kept, &mut Words::new(rest), page)
-            } else {
-                mark_loops(self.heap, kept, rest, page)
+    fn consult(&mut self, command: &[u8], rest: &[u8], page: &mut Page) -> Result<(), Stop> {
+        let mut words = Words::new(rest);
+        match command {
+            b"fault" => {
+                check_file(hex_bytes(self.heap, rest, NO_BYTES)?.as_slice())?;
+                Ok(page.answer("good")?)
             }
-        } else {
-            page.unknown(b"no such line; try help")
+            b"dialogue" => {
+                let kept = Kept::read(self.heap, &self.drawing, &mut words)?;
+                self.keep_dialogue(kept, page)
+            }
+            b"ask" => ask(self.kept()?, &mut words, page),
+            b"loops" => mark_loops(self.heap, self.kept()?.pile(), &mut words, page),
+            _ => Err(Stop::Unknown("no such line; try help")),
         }
     }
 
-    fn write_file(&mut self, rest: &[u8], page: &mut Page) -> Result<(), AllocError> {
-        let need = drawn::file_length(self.heap, &self.drawing)?;
-        let Some(room) = room(rest, need) else {
-            return page.unknown(b"a room is a decimal number");
-        };
-        drawn::write_file(self.heap, &self.drawing, room, page)
+    fn kept(&self) -> Result<&Kept, Stop> {
+        self.dialogue
+            .as_ref()
+            .ok_or(Stop::Unknown("no dialogue is kept"))
     }
 
-    fn tell_fault(&mut self, rest: &[u8], page: &mut Page) -> Result<(), AllocError> {
-        let Some(bytes) = hex_bytes(self.heap, rest)? else {
-            return page.unknown(b"bytes in hexadecimal are wanted, - for none");
-        };
-        match check_file(bytes.as_slice()) {
-            Ok(()) => page.text(b"= good\n"),
-            Err(fault) => page.refusal(fault),
-        }
+    fn rule(&self) -> Result<Rule, Stop> {
+        self.rule.ok_or(Stop::Unknown("no rule is kept"))
     }
 
-    fn keep_dialogue(&mut self, kept: Option<Kept>, page: &mut Page) -> Result<(), AllocError> {
-        let Some(kept) = kept else {
-            return page.unknown(
-                b"drawing, file BYTES, free K, pair EXPR EXPR or bar EVENT EXPR is wanted",
-            );
-        };
-        let (states, events) = kept.sizes();
+    fn keep_dialogue(&mut self, kept: Kept, page: &mut Page) -> Result<(), Stop> {
+        let states = kept.pile().states();
+        let events = kept.pile().events();
         self.dialogue = Some(kept);
-        page.text(b"= ")?;
-        page.number(states)?;
-        page.text(b" ")?;
-        page.number(events)?;
-        page.text(b"\n")
+        Ok(page.answer(format_args!("{states} {events}"))?)
     }
 
-    fn keep_journey(
-        &mut self,
-        journey: Option<Journey>,
-        page: &mut Page,
-    ) -> Result<(), AllocError> {
-        let Some(journey) = journey else {
-            return page.unknown(b"a lead-in is wanted, and then labels");
-        };
-        page.text(b"= ")?;
-        page.number(journey.labels.len())?;
-        page.text(b" ")?;
-        page.number(journey.lead_in)?;
+    fn keep_journey(&mut self, journey: Journey, page: &mut Page) -> Result<(), Stop> {
+        page.answer(format_args!("{} {}", journey.labels.len(), journey.lead_in))?;
         self.journey = Some(journey);
-        page.text(b"\n")
+        Ok(())
     }
 
-    fn judge_journey(&mut self, rest: &[u8], page: &mut Page) -> Result<(), AllocError> {
-        let Some(rule) = self.rule else {
-            return page.unknown(b"no rule is kept");
-        };
-        let Some(journey) = &self.journey else {
-            return page.unknown(b"no journey is kept");
-        };
-        let need = journey.labels.len().saturating_mul(128);
-        let Some(room) = room(rest, need) else {
-            return page.unknown(b"a room is a decimal number");
-        };
-        let Ok(mut work) = vec![in self.heap; 0u8; room] else {
-            return page.unknown(b"there is not so much memory");
-        };
-        match journey.judged_by(&rule, work.as_mut_slice()) {
-            Err(fault) => page.refusal(fault),
-            Ok(true) => page.text(b"= true\n"),
-            Ok(false) => page.text(b"= false\n"),
-        }
+    fn judge_journey(&mut self, words: &mut Words, page: &mut Page) -> Result<(), Stop> {
+        let rule = self.rule()?;
+        let journey = self
+            .journey
+            .as_ref()
+            .ok_or(Stop::Unknown("no journey is kept"))?;
+        let room = room(words, journey.labels.len().saturating_mul(128))?;
+        let mut work = lend(self.heap, 0u8, room)?;
+        let verdict = journey.judged_by(&rule, work.as_mut_slice())?;
+        Ok(page.answer(verdict)?)
     }
 
-    fn read_rule(&mut self, text: &[u8], page: &mut Page) -> Result<(), AllocError> {
-        match rules::read(text) {
-            Err(fault) => page.refusal(fault),
-            Ok(rule) => {
-                let mut out = [0u8; 128];
-                let written = rule.write(&mut out);
-                self.rule = Some(rule);
-                match written {
-                    Err(fault) => page.refusal(fault),
-                    Ok(count) => {
-                        page.text(b"= ")?;
-                        page.text(&out[0..count.min(128)])?;
-                        page.text(b"\n")
-                    }
-                }
-            }
-        }
+    fn read_rule(&mut self, text: &[u8], page: &mut Page) -> Result<(), Stop> {
+        let rule = rules::read(text)?;
+        self.rule = Some(rule);
+        let text = written(self.heap, LONGEST_RULE, |out| rule.write(out))?;
+        Ok(page.answer(Text(text.as_slice()))?)
     }
 
-    fn read_rule_hex(&mut self, rest: &[u8], page: &mut Page) -> Result<(), AllocError> {
-        match hex_bytes(self.heap, rest)? {
-            None => page.unknown(b"bytes in hexadecimal are wanted, - for none"),
-            Some(bytes) => self.read_rule(bytes.as_slice(), page),
-        }
+    fn write_rule(&mut self, words: &mut Words, page: &mut Page) -> Result<(), Stop> {
+        let rule = self.rule()?;
+        let need = written(self.heap, LONGEST_RULE, |out| rule.write(out))?.len();
+        let text = written(self.heap, room(words, need)?, |out| rule.write(out))?;
+        show_bytes(text.as_slice(), page)
     }
 
-    fn write_rule(&mut self, rest: &[u8], page: &mut Page) -> Result<(), AllocError> {
-        let Some(rule) = self.rule else {
-            return page.unknown(b"no rule is kept");
-        };
-        let Some(room) = room(rest, written_length(&rule)) else {
-            return page.unknown(b"a room is a decimal number");
-        };
-        let Ok(mut out) = vec![in self.heap; 0u8; room] else {
-            return page.unknown(b"there is not so much memory");
-        };
-        match rule.write(out.as_mut_slice()) {
-            Err(fault) => page.refusal(fault),
-            Ok(count) => {
-                page.text(b"= ")?;
-                page.number(count)?;
-                page.text(b" ")?;
-                page.hex(&out[0..count.min(room)])?;
-                page.text(b"\n")
-            }
-        }
+    fn write_file(&mut self, words: &mut Words, page: &mut Page) -> Result<(), Stop> {
+        let drawing = &self.drawing;
+        let need = written(self.heap, LONGEST_FILE, |out| drawing.write(out))?.len();
+        let file = written(self.heap, room(words, need)?, |out| drawing.write(out))?;
+        show_bytes(file.as_slice(), page)
     }
 }
 
-fn written_length(rule: &Rule) -> usize {
-    let mut out = [0u8; 128];
-    match rule.write(&mut out) {
-        Ok(count) => count,
-        Err(_) => 0,
-    }
+/// The answer of a call that wrote bytes: how many, and which.
+fn show_bytes(bytes: &[u8], page: &mut Page) -> Result<(), Stop> {
+    Ok(page.answer(format_args!("{} {}", bytes.len(), Hex(bytes)))?)
 }
 
-/// The room that a line gives, or what is needed where it gives none. None where it gives something else.
-fn room(rest: &[u8], need: usize) -> Option<usize> {
-    let mut words = Words::new(rest);
-    let Some(word) = words.next() else {
-        return Some(need);
-    };
-    let room = number(word)?;
-    if words.at_end() {
-        Some(room as usize)
-    } else {
-        None
-    }
-}
+/// The lines that are known.
+const HELP: [&str; 15] = [
+    "rule TEXT                   reads a rule and keeps it",
+    "rule-hex BYTES              the same, from bytes in hexadecimal",
+    "write [ROOM]                writes the kept rule out, into a list of that length",
+    "journey LEAD LETTERS ..     keeps a journey: its lead-in, and a label for each word",
+    "journey-hex LEAD BYTES      the same, two bytes for each label, the least first",
+    "judge [ROOM]                judges the kept journey by the kept rule",
+    "new, wipe                   the drawing anew, or without states",
+    "add LETTERS MARK            a state more, and whether it is a start: 0 or 1",
+    "relabel STATE LETTERS MARK  another label and start mark",
+    "join FROM EVENT TO          a next state; cut FROM EVENT takes it away",
+    "take BYTES                  the drawing from a file; file [ROOM] writes it",
+    "fault BYTES                 what is wrong with a file",
+    "dialogue EXPR               keeps a dialogue: drawing, file BYTES, free K, pair EXPR EXPR, bar EVENT EXPR",
+    "ask STATE EVENT             start, label, next state and name",
+    "loops [ROOM ROOM ROOM ROOM] marks its states: 0 not reached, 1 reached, 2 able to return to itself",
+];
 
 fn help(page: &mut Page) -> Result<(), AllocError> {
-    page.detail(b"rule TEXT                   reads a rule and keeps it")?;
-    page.detail(b"rule-hex BYTES              the same, from bytes in hexadecimal")?;
-    page.detail(
-        b"write [ROOM]                writes the kept rule out, into a list of that length",
-    )?;
-    page.detail(
-        b"journey LEAD LETTERS ..     keeps a journey: its lead-in, and a label for each word",
-    )?;
-    page.detail(
-        b"journey-hex LEAD BYTES      the same, two bytes for each label, the least first",
-    )?;
-    page.detail(b"judge [ROOM]                judges the kept journey by the kept rule")?;
-    page.detail(b"new, wipe                   the drawing anew, or without states")?;
-    page.detail(b"add LETTERS MARK            a state more, and whether it is a start: 0 or 1")?;
-    page.detail(b"relabel STATE LETTERS MARK  another label and start mark")?;
-    page.detail(b"join FROM EVENT TO          a next state; cut FROM EVENT takes it away")?;
-    page.detail(b"take BYTES                  the drawing from a file; file [ROOM] writes it")?;
-    page.detail(b"fault BYTES                 what is wrong with a file")?;
-    page.detail(
-        b"dialogue EXPR               keeps a dialogue: drawing, file BYTES, free K, pair EXPR EXPR, bar EVENT EXPR",
-    )?;
-    page.detail(b"ask STATE EVENT             start, label, next state and name")?;
-    page.detail(
-        b"loops [ROOM ROOM ROOM ROOM] marks its states: 0 not reached, 1 reached, 2 able to return to itself",
-    )?;
+    for line in HELP {
+        page.detail(line)?;
+    }
     page.done()
 }

@@ -1,14 +1,15 @@
 //! What a denial tells.
-ghost use Rattle.std.specs.Prelude.{◌≡◌, ℕ, ◌<◌, ◌&&◌};
+ghost use Rattle.std.specs.Prelude.{◌≡◌, ℕ, ◌<◌, not, ◌&&◌, ◌||◌};
 ghost use Rattle.components.specs.Bits.{has};
 ghost use Rattle.rules.specs.Rules.{formula};
-ghost use Rattle.unfolding.specs.Pushed.{locations as locations_of, promise};
+ghost use Rattle.unfolding.specs.Pushed.{locations as locations_of, owes, carried, promise};
 ghost use Rattle.unfolding.specs.Smallest.{carries as carries_all, smallest, without, mentioned as mentioned_by};
 ghost use Rattle.denials.specs.Meaning.{denied};
 
 use crate::bits::{contains, only, select};
-use crate::debts::debts_of;
-use crate::parts::{carried_if, count_operators};
+use crate::debts::owing;
+use crate::parts::count_operators;
+use crate::signed::Debt;
 use rules::rule::Rule;
 
 impl<'a> super::Denial<'a> {
@@ -16,15 +17,22 @@ impl<'a> super::Denial<'a> {
     pub fn new(rule: &'a Rule) -> super::Denial<'a>
         ensures { denied result ≡ formula rule.now }
     {
-        let parts = rule.parts();
-        let locations = 1 + count_operators(parts, parts.len() - 1);
-        let all = debts_of(parts, locations);
-        let debts = all.each;
+        let locations = 1 + count_operators(rule, rule.parts().len() - 1);
+        let mut debts = [Debt::default(); 10];
+        let mut promises = 0;
+        for location in 0..locations {
+            let owed = owing(rule, location);
+            debts[location] = Debt {
+                part: owed.part,
+                mentions: owed.part.mentions(rule),
+            };
+            promises |= select(owed.promise, only(location));
+        }
         super::Denial {
             rule,
             locations,
             debts,
-            promises: all.promises,
+            promises,
         }
     }
 
@@ -46,50 +54,38 @@ impl<'a> super::Denial<'a> {
     pub fn mentioned(&self, owed: u32) -> u32
         ensures { (l : ℕ) → l < 32 → has result l ≡ mentioned_by (denied self.now) (has owed) l }
     {
-        let mut union = 0;
-        for location in 0..self.locations {
-            union |= select(contains(owed, location), self.debts[location].mentions);
-        }
-        union
+        (0..self.locations)
+            .filter(|location| contains(owed, *location))
+            .fold(0, |union, location| union | self.debts[location].mentions)
     }
 
     /// Whether a label and a set of locations carry all that is owed.
     pub fn carries(&self, label: u16, owed: u32, next: u32) -> bool
         ensures { result ≡ carries_all (denied self.now) label (has owed) (has next) }
     {
-        let parts = self.rule.parts();
-        for location in 0..self.locations {
-            let wanted = contains(owed, location);
-            if !carried_if(wanted, parts, self.debts[location].part, label, next) {
-                return false;
-            }
-        }
-        true
+        (0..self.locations).all(|location| self.pays(location, label, owed, next))
+    }
+
+    /// Whether what a location owes is carried, where it is owed.
+    fn pays(&self, location: usize, label: u16, owed: u32, next: u32) -> bool
+        requires { location < locations_of (denied self.now) }
+        ensures { result ≡ (not (has owed location) || carried (owes (denied self.now) location) label (has next)) }
+    {
+        !contains(owed, location) || self.debts[location].part.is_carried(self.rule, label, next)
     }
 
     /// Whether a location is in a set and can be spared.
     fn spares(&self, location: usize, label: u16, owed: u32, next: u32) -> bool
         ensures { result ≡ (has next location && carries_all (denied self.now) label (has owed) (without location (has next))) }
     {
-        if contains(next, location) {
-            self.carries(label, owed, next - (next & only(location)))
-        } else {
-            false
-        }
+        contains(next, location) && self.carries(label, owed, next - (next & only(location)))
     }
 
     /// Whether they do, and would not with any one location less.
     pub fn is_smallest(&self, label: u16, owed: u32, next: u32) -> bool
         ensures { result ≡ smallest (denied self.now) label (has owed) (has next) }
     {
-        if !self.carries(label, owed, next) {
-            return false;
-        }
-        for location in 0..self.locations {
-            if self.spares(location, label, owed, next) {
-                return false;
-            }
-        }
-        true
+        self.carries(label, owed, next)
+            && (0..self.locations).all(|location| !self.spares(location, label, owed, next))
     }
 }

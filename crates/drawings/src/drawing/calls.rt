@@ -1,23 +1,25 @@
 //! The calls that change a drawing.
-ghost use Rattle.std.specs.Prelude.{◌≡◌};
-ghost use Rattle.tables.specs.Drawings.{drawing_fault, blank, add_answer, after_add, relabel_answer, after_relabel, join_answer, after_join, cut_answer, after_cut};
+ghost use Rattle.std.specs.Prelude.{◌≡◌, if◌then◌else◌, Ok, ◌==◌, nat_le};
+ghost use Rattle.faults.specs.declared.Cause.TheVariants.{NoSuchArgument};
+ghost use Rattle.tables.specs.Drawings.{refused, blank, add_answer, after_add, relabel_answer, after_relabel, join_answer, after_join, cut_answer, after_cut};
 ghost use Rattle.tables.specs.Takes.{take_answer, after_take};
 ghost use Rattle.drawings.specs.Drawn.{drawn};
 
 use crate::checks::read_file;
 use crate::drawing::copies::drawing_of;
+use crate::drawing::state::State;
 use crate::drawing::{Drawing, EVENTS, ROOM};
 use crate::file::File;
 use faults::{Cause, Fault, Layer};
 
-/// The refusal of a drawing's call.
-pub(crate) fn refusal(cause: Cause, place: usize) -> Fault
-    ensures { result ≡ drawing_fault cause place }
+/// The start mark that an argument says, if it is 0 or 1.
+fn start_mark(start: usize, argument: usize) -> Result<bool, Fault>
+    ensures { result ≡ (if nat_le start 1 then Ok (start == 1) else refused NoSuchArgument argument) }
 {
-    Fault {
-        cause,
-        place,
-        layer: Layer::Drawing,
+    match start {
+        0 => Ok(false),
+        1 => Ok(true),
+        _ => Err(Layer::Drawing.refusal(Cause::NoSuchArgument, argument)),
     }
 }
 
@@ -28,9 +30,7 @@ impl Drawing {
     {
         Drawing {
             count: 0,
-            starts: [false; 64],
-            labels: [0; 64],
-            next: [None; 1024],
+            states: [State::new(false, 0); 64],
         }
     }
 
@@ -39,15 +39,12 @@ impl Drawing {
         ensures answer { result ≡ add_answer (drawn self.old) start }
         ensures leaves { drawn self.new ≡ after_add (drawn self.old) label start }
     {
-        if start > 1 {
-            return Err(refusal(Cause::NoSuchArgument, 2));
-        }
+        let start = start_mark(start, 2)?;
         let state = self.count;
         if state >= ROOM {
-            return Err(refusal(Cause::DrawingFull, 64));
+            return Err(Layer::Drawing.refusal(Cause::DrawingFull, 64));
         }
-        self.starts[state] = start == 1;
-        self.labels[state] = label;
+        self.states[state] = State::new(start, label);
         self.count = state + 1;
         Ok(state as u8)
     }
@@ -58,13 +55,11 @@ impl Drawing {
         ensures leaves { drawn self.new ≡ after_relabel (drawn self.old) state label start }
     {
         if state >= self.count {
-            return Err(refusal(Cause::NoSuchArgument, 1));
+            return Err(Layer::Drawing.refusal(Cause::NoSuchArgument, 1));
         }
-        if start > 1 {
-            return Err(refusal(Cause::NoSuchArgument, 3));
-        }
-        self.starts[state] = start == 1;
-        self.labels[state] = label;
+        let start = start_mark(start, 3)?;
+        let next = self.states[state].next;
+        self.states[state] = State { start, label, next };
         Ok(())
     }
 
@@ -74,20 +69,19 @@ impl Drawing {
         ensures leaves { drawn self.new ≡ after_join (drawn self.old) from event to }
     {
         if from >= self.count {
-            return Err(refusal(Cause::NoSuchArgument, 1));
+            return Err(Layer::Drawing.refusal(Cause::NoSuchArgument, 1));
         }
         if event >= EVENTS {
-            return Err(refusal(Cause::NoSuchArgument, 2));
+            return Err(Layer::Drawing.refusal(Cause::NoSuchArgument, 2));
         }
         if to >= self.count {
-            return Err(refusal(Cause::NoSuchArgument, 3));
+            return Err(Layer::Drawing.refusal(Cause::NoSuchArgument, 3));
         }
-        let at = from * EVENTS + event;
-        let old = self.next[at];
-        if old.is_some() {
-            return Err(refusal(Cause::AlreadyJoined, from));
+        let state = self.states[from];
+        if state.next[event].is_some() {
+            return Err(Layer::Drawing.refusal(Cause::AlreadyJoined, from));
         }
-        self.next[at] = Some(to as u8);
+        self.states[from] = state.with_next(event, Some(to as u8));
         Ok(())
     }
 
@@ -97,17 +91,16 @@ impl Drawing {
         ensures leaves { drawn self.new ≡ after_cut (drawn self.old) from event }
     {
         if from >= self.count {
-            return Err(refusal(Cause::NoSuchArgument, 1));
+            return Err(Layer::Drawing.refusal(Cause::NoSuchArgument, 1));
         }
         if event >= EVENTS {
-            return Err(refusal(Cause::NoSuchArgument, 2));
+            return Err(Layer::Drawing.refusal(Cause::NoSuchArgument, 2));
         }
-        let at = from * EVENTS + event;
-        let old = self.next[at];
-        if old.is_none() {
-            return Err(refusal(Cause::NotJoined, from));
+        let state = self.states[from];
+        if state.next[event].is_none() {
+            return Err(Layer::Drawing.refusal(Cause::NotJoined, from));
         }
-        self.next[at] = None;
+        self.states[from] = state.with_next(event, None);
         Ok(())
     }
 
@@ -123,11 +116,11 @@ impl Drawing {
         ensures answer { result ≡ take_answer bytes.now }
         ensures leaves { drawn self.new ≡ after_take (drawn self.old) bytes.now }
     {
-        let o = read_file(bytes)?;
-        if o.states > ROOM || o.events != EVENTS {
-            return Err(refusal(Cause::DrawingFull, o.states));
+        let outline = read_file(bytes)?;
+        if outline.states > ROOM || outline.events != EVENTS {
+            return Err(Layer::Drawing.refusal(Cause::DrawingFull, outline.states));
         }
-        *self = drawing_of(&File::open(bytes, o));
+        *self = drawing_of(&File::open(bytes, outline));
         Ok(())
     }
 }

@@ -1,56 +1,42 @@
 //! Copying a dialogue into a drawing.
-ghost use Rattle.std.specs.Prelude.{◌≡◌, ℕ, ◌/◌, ◌%◌, ◌<◌, ◌≤◌, false, length, None, slice_index, slice_index_or};
-ghost use Rattle.tables.specs.Cells.{Copied};
+ghost use Rattle.std.specs.Prelude.{◌≡◌, ℕ, ◌<◌, ◌≤◌};
 ghost use Rattle.drawings.specs.Drawn.{drawn};
+ghost use Rattle.drawings.specs.Rows.{state_at, IsCopy};
 
-use crate::drawing::{Drawing, EVENTS, ROOM};
+use crate::drawing::state::State;
+use crate::drawing::{Drawing, ROOM};
 use dialogues::dialogue::Dialogue;
-
-/// The start marks of a dialogue's first 64 states.
-fn starts_of<D: Dialogue>(dialogue: &D) -> [bool; 64]
-    ensures { (s : ℕ) → s < 64 → slice_index_or result s false ≡ (D.Dialogue.table dialogue.now).start s }
-{
-    let mut starts = [false; 64];
-    for s in 0..ROOM {
-        starts[s] = dialogue.is_start(s);
-    }
-    starts
-}
-
-/// The labels of a dialogue's first 64 states.
-fn labels_of<D: Dialogue>(dialogue: &D) -> [u16; 64]
-    ensures same { (s : ℕ) → s < 64 → slice_index result s ≡ (D.Dialogue.table dialogue.now).label s }
-    ensures long { length result ≡ 64 }
-{
-    let mut labels = [0; 64];
-    for s in 0..ROOM {
-        labels[s] = dialogue.label(s);
-    }
-    labels
-}
 
 /// The next state of one state and event, in a dialogue of at most 64 states.
 fn next_of<D: Dialogue>(dialogue: &D, state: usize, event: usize) -> Option<u8>
     requires { (D.Dialogue.table dialogue.now).states ≤ 64 }
     ensures { result ≡ (D.Dialogue.table dialogue.now).next state event }
 {
-    match dialogue.next(state, event) {
-        Some(to) => Some(to as u8),
-        None => None,
+    dialogue.next(state, event).map(|to| to as u8)
+}
+
+/// A state of a dialogue of at most 64 states.
+fn state_of<D: Dialogue>(dialogue: &D, state: usize) -> State
+    requires { (D.Dialogue.table dialogue.now).states ≤ 64 }
+    ensures { IsCopy (D.Dialogue.table dialogue.now) state result }
+{
+    State {
+        start: dialogue.is_start(state),
+        label: dialogue.label(state),
+        next: std::array::from_fn(|event| next_of(dialogue, state, event)),
     }
 }
 
-/// The next states of a dialogue of at most 64 states, those of state s and event e at s * 16 + e.
-fn next_states_of<D: Dialogue>(dialogue: &D) -> [Option<u8>; 1024]
+/// The first 64 states of a dialogue that has no more.
+fn states_of<D: Dialogue>(dialogue: &D) -> [State; 64]
     requires { (D.Dialogue.table dialogue.now).states ≤ 64 }
-    ensures long { length result ≡ 1024 }
-    ensures same { Copied (D.Dialogue.table dialogue.now) result }
+    ensures { (s : ℕ) → s < 64 → IsCopy (D.Dialogue.table dialogue.now) s (state_at result s) }
 {
-    let mut next = [None; 1024];
-    for k in 0..ROOM * EVENTS {
-        next[k] = next_of(dialogue, k / EVENTS, k % EVENTS);
+    let mut states = [State::new(false, 0); 64];
+    for s in 0..ROOM {
+        states[s] = state_of(dialogue, s);
     }
-    next
+    states
 }
 
 /// The drawing of a dialogue of at most 64 states and 16 events.
@@ -61,8 +47,6 @@ pub(crate) fn drawing_of<D: Dialogue>(dialogue: &D) -> Drawing
 {
     Drawing {
         count: dialogue.states() as usize,
-        starts: starts_of(dialogue),
-        labels: labels_of(dialogue),
-        next: next_states_of(dialogue),
+        states: states_of(dialogue),
     }
 }

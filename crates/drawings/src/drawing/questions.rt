@@ -1,6 +1,7 @@
 //! A drawing is a dialogue.
 ghost use Rattle.tables.proofs.Cells.{cells_formed};
 ghost use Rattle.drawings.specs.Drawn.{drawn};
+ghost use Rattle.drawings.specs.Rows.{start_at, label_at, next_at};
 
 use crate::drawing::{Drawing, EVENTS};
 use dialogues::dialogue::Dialogue;
@@ -8,7 +9,7 @@ use dialogues::dialogue::Dialogue;
 impl Dialogue for Drawing {
     ghost table = { drawn };
 
-    ghost formed = { λ d. cells_formed d.count d.starts d.labels d.next d.few d.fit d.within d.clear };
+    ghost formed = { λ d. cells_formed d.count (start_at d.states) (label_at d.states) (next_at d.states) d.few d.fit d.within };
 
     fn states(&self) -> u32 {
         self.count as u32
@@ -19,12 +20,12 @@ impl Dialogue for Drawing {
     }
 
     fn is_start(&self, state: usize) -> bool {
-        state < self.count && self.starts[state]
+        state < self.count && self.states[state].start
     }
 
     fn label(&self, state: usize) -> u16 {
         if state < self.count {
-            self.labels[state]
+            self.states[state].label
         } else {
             0
         }
@@ -34,9 +35,6 @@ impl Dialogue for Drawing {
         if state >= self.count || event >= EVENTS {
             return None;
         }
-        match self.next[state * EVENTS + event] {
-            Some(to) => Some(to as u16),
-            None => None,
-        }
+        self.states[state].next[event].map(u16::from)
     }
 }

@@ -5,9 +5,9 @@ ghost use Rattle.tables.specs.Writes.{pasted, presses, pair_bytes, press_bytes, 
 ghost use Rattle.drawings.specs.Drawn.{drawn};
 
 use crate::checks::{PRESS_SIZE, STATE_SIZE};
-use crate::drawing::calls::refusal;
 use crate::drawing::{Drawing, EVENTS};
-use faults::{Cause, Fault};
+use dialogues::dialogue::Dialogue;
+use faults::{Cause, Fault, Layer};
 
 /// Copies a record into a list.
 fn put(out: &mut [u8], at: usize, bytes: &[u8])
@@ -26,8 +26,7 @@ impl Drawing {
     {
         let mut total = 0;
         for i in 0..self.count * EVENTS {
-            let to = self.next[i];
-            if to.is_some() {
+            if self.next(i / EVENTS, i % EVENTS).is_some() {
                 total += 1;
             }
         }
@@ -40,12 +39,12 @@ impl Drawing {
         requires room { 10 + 5 * state ≤ length out.old }
         ensures { out.new ≡ pasted (5 + 5 * state) (state_bytes (drawn self.now) state) out.old }
     {
-        let label = self.labels[state];
-        let start = if self.starts[state] { 1 } else { 0 };
+        let [low, high] = self.label(state).to_le_bytes();
+        let start = self.is_start(state) as u8;
         put(
             out,
             STATE_SIZE + STATE_SIZE * state,
-            &[b'D', b'S', (label % 256) as u8, (label / 256) as u8, start],
+            &[b'D', b'S', low, high, start],
         );
     }
 
@@ -56,13 +55,13 @@ impl Drawing {
         ensures end { result ≡ at + length (pair_bytes (drawn self.now) i) }
         ensures leaves { out.new ≡ pasted at (pair_bytes (drawn self.now) i) out.old }
     {
-        let next = self.next[i];
-        match next {
+        let (from, event) = (i / EVENTS, i % EVENTS);
+        match self.next(from, event) {
             Some(to) => {
                 put(
                     out,
                     at,
-                    &[b'D', b'P', (i / EVENTS) as u8, 0, (i % EVENTS) as u8, to, 0],
+                    &[b'D', b'P', from as u8, 0, event as u8, to as u8, 0],
                 );
                 at + PRESS_SIZE
             }
@@ -102,7 +101,7 @@ impl Drawing {
     {
         let size = STATE_SIZE + STATE_SIZE * self.count + PRESS_SIZE * self.count_presses() + 2;
         if out.len() < size {
-            return Err(refusal(Cause::ListTooShort, 1));
+            return Err(Layer::Drawing.refusal(Cause::ListTooShort, 1));
         }
         put(out, 0, &[b'D', b'H', self.count as u8, 0, 16]);
         self.put_states(out);

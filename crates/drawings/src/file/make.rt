@@ -5,36 +5,26 @@ ghost use Rattle.drawings.specs.Opened.{opened};
 
 use crate::checks::{Outline, read_file};
 use crate::file::File;
+use std::convert::AsSlice;
 
-impl<'a> File<'a> {
+impl<B: AsSlice<u8>> File<B> {
     /// The dialogue of a good file that was read.
-    pub(crate) fn open(bytes: &'a [u8], o: Outline) -> File<'a>
-        requires { Layout bytes.now o.states o.events o.presses }
-        ensures { opened result ≡ filed bytes.now o.states o.events o.presses }
+    pub(crate) fn open(bytes: B, outline: Outline) -> File<B>
+        requires { Layout (B.items bytes) outline.states outline.events outline.presses }
+        ensures { opened result ≡ filed (B.items bytes) outline.states outline.events outline.presses }
     {
-        File {
-            bytes,
-            states: o.states,
-            events: o.events,
-            presses: o.presses,
-        }
+        File { bytes, outline }
     }
 
     /// The dialogue of a file's bytes.
-    pub fn new(bytes: &'a [u8]) -> File<'a>
-        ensures { opened result ≡ file_table bytes.now }
+    pub fn new(bytes: B) -> File<B>
+        ensures { opened result ≡ file_table (B.items bytes) }
     {
-        let o = match read_file(bytes) {
-            Ok(o) => o,
-            Err(_) => {
-                return File {
-                    bytes,
-                    states: 0,
-                    events: 0,
-                    presses: 0,
-                };
-            }
-        };
-        File::open(bytes, o)
+        let outline = read_file(bytes.as_slice()).unwrap_or(Outline {
+            states: 0,
+            events: 0,
+            presses: 0,
+        });
+        File { bytes, outline }
     }
 }

@@ -4,13 +4,14 @@ ghost use Rattle.tables.specs.Files.{file_name};
 use crate::file::File;
 use dialogues::name::Name;
 use dialogues::named::Named;
+use std::convert::AsSlice;
 
 /// Event e is named E and its decimal number.
-impl<'a> Named for File<'a> {
-    ghost names = { λ f e. file_name f.events e };
+impl<B: AsSlice<u8>> Named for File<B> {
+    ghost names = { λ f e. file_name f.outline.events e };
 
     fn name(&self, event: usize) -> Option<Name> {
-        if event >= self.events {
+        if event >= self.outline.events {
             return None;
         }
         let number = event as u8;

@@ -6,10 +6,10 @@ ghost use Rattle.piles.specs.Names.{all_named, pile_names};
 
 use crate::named::NamedPile;
 use crate::pile::Pile;
-use dialogues::dialogue::Dialogue;
+use dialogues::dialogue::{Dialogue, Size};
 use dialogues::name::Name;
 use dialogues::named::Named;
-use dialogues::pair::pair_size;
+use dialogues::pair::Side;
 
 impl Pile {
     /// Whether each event has a name.
@@ -17,11 +17,10 @@ impl Pile {
         ensures { result ≡ all_named self.now }
     {
         match self {
-            Pile::Drawn(_) => true,
-            Pile::Filed(_) => true,
+            Pile::Drawn(_) | Pile::Filed(_) => true,
             Pile::Open(_) => false,
-            Pile::Pair(left, right) => left.is_named() && right.is_named(),
-            Pile::Bar(_, below) => below.is_named(),
+            Pile::Pair(pair) => pair.left.is_named() && pair.right.is_named(),
+            Pile::Bar(bar) => bar.below.is_named(),
         }
     }
 
@@ -34,18 +33,11 @@ impl Pile {
             Pile::Drawn(drawing) => drawing.name(event),
             Pile::Filed(file) => file.name(event),
             Pile::Open(_) => None,
-            Pile::Pair(left, right) => {
-                if event >= pair_size(left.size(), right.size()).events as usize {
-                    return None;
-                }
-                let shift = left.size().events as usize;
-                if event < shift {
-                    left.find_name(event)
-                } else {
-                    right.find_name(event - shift)
-                }
-            }
-            Pile::Bar(_, below) => below.find_name(event),
+            Pile::Pair(pair) => match pair.side_of(event)? {
+                Side::Left(left) => pair.left.find_name(left),
+                Side::Right(right) => pair.right.find_name(right),
+            },
+            Pile::Bar(bar) => bar.below.find_name(event),
         }
     }
 }
@@ -61,6 +53,13 @@ impl NamedPile {
         } else {
             Err(pile)
         }
+    }
+
+    /// The pile itself, lent.
+    pub fn as_pile(&self) -> &Pile
+        ensures { result.now ≡ self.now.pile }
+    {
+        &self.pile
     }
 
     /// The pile itself.
@@ -83,6 +82,10 @@ impl Dialogue for NamedPile {
 
     fn events(&self) -> u8 {
         self.pile.events()
+    }
+
+    fn size(&self) -> Size {
+        self.pile.size()
     }
 
     fn is_start(&self, state: usize) -> bool {

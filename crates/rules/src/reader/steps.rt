@@ -1,51 +1,21 @@
 //! One byte of a text read.
 ghost use Rattle.std.specs.Prelude.{◌≡◌, ◌+◌, ◌<◌, ◌≤◌, [], length};
 ghost use Rattle.faults.specs.declared.Cause.TheVariants.{UnexpectedByte, TooManyOperators};
-ghost use Rattle.formulas.specs.Formula.{temporal_prefix, temporal_infix};
 ghost use Rattle.formulas.specs.declared.Sign.TheVariants.{Close};
 ghost use Rattle.formulas.specs.Sign.{sign};
 ghost use Rattle.formulas.specs.Table.{counted_from};
 ghost use Rattle.formulas.proofs.Machine.{wanting};
-ghost use Rattle.rules.specs.Refusal.{rule_fault};
 ghost use Rattle.rules.specs.Reading.{Sane, Tables, Known, Located, Stepped, Joining, Finished, Progress, state_of, parts_of, frames_of, all_locations, in_mode, with_part};
 ghost use Rattle.rules.specs.declared.reader.Mode.TheVariants.{Wanting, Having, Dashed};
 
 use super::{Frame, Mode, Reader};
 use crate::rule::Rule;
-use crate::signs::{infix_level, sign_of};
+use arrayvec::ArrayVec;
 use faults::{Cause, Fault, Layer};
-use formulas::{Infix, Part, Prefix, Sign};
+use formulas::{Infix, Part, Sign};
 
 /// The most temporal operators of a rule.
 const MOST_TEMPORALS: usize = 9;
-
-pub(crate) fn refusal(cause: Cause, place: usize) -> Fault
-    ensures { result ≡ rule_fault cause place }
-{
-    Fault {
-        cause,
-        place,
-        layer: Layer::Rule,
-    }
-}
-
-fn is_temporal_prefix(op: Prefix) -> bool
-    ensures { result ≡ temporal_prefix op }
-{
-    match op {
-        Prefix::Not => false,
-        Prefix::Next | Prefix::Finally | Prefix::Globally => true,
-    }
-}
-
-fn is_temporal_infix(op: Infix) -> bool
-    ensures { result ≡ temporal_infix op }
-{
-    match op {
-        Infix::Implies | Infix::Or | Infix::And => false,
-        Infix::Until | Infix::Release => true,
-    }
-}
 
 impl Reader {
     pub(crate) fn new() -> Reader
@@ -54,10 +24,8 @@ impl Reader {
         ensures temporals { result.temporals ≡ 0 }
     {
         Reader {
-            parts: [Part::Constant(false); 128],
-            count: 0,
-            frames: [Frame::Bracket; 128],
-            depth: 0,
+            parts: ArrayVec::new(),
+            frames: ArrayVec::new(),
             mode: Mode::Wanting,
             temporals: 0,
         }
@@ -72,7 +40,7 @@ impl Reader {
             return Ok(0);
         }
         if self.temporals >= MOST_TEMPORALS {
-            return Err(refusal(Cause::TooManyOperators, place));
+            return Err(Layer::Rule.refusal(Cause::TooManyOperators, place));
         }
         self.temporals += 1;
         Ok(self.temporals)
@@ -88,25 +56,25 @@ impl Reader {
     {
         match sign {
             Sign::Blank => {}
-            Sign::Open => self.push_frame(Frame::Bracket),
+            Sign::Open => self.frames.push(Frame::Bracket),
             Sign::Before(op) => {
-                let location = self.locate(is_temporal_prefix(op), place)?;
-                self.push_frame(Frame::Waiting(op, location));
+                let location = self.locate(op.is_temporal(), place)?;
+                self.frames.push(Frame::Waiting(op, location));
             }
             Sign::Constant(value) => self.push_operand(Part::Constant(value)),
             Sign::Letter(letter) => self.push_operand(Part::Letter(letter)),
             Sign::Close | Sign::Dash | Sign::Head | Sign::Between(_) | Sign::Unknown => {
-                return Err(refusal(Cause::UnexpectedByte, place));
+                return Err(Layer::Rule.refusal(Cause::UnexpectedByte, place));
             }
         }
         Ok(())
     }
 
     fn push_operand(&mut self, part: Part)
-        requires { self.old.count < 128 }
+        requires { length (parts_of self.old) < 128 }
         ensures { self.new ≡ in_mode (with_part self.old part) Having }
     {
-        self.push_part(part);
+        self.parts.push(part);
         self.mode = Mode::Having;
     }
 
@@ -130,7 +98,7 @@ impl Reader {
             | Sign::Constant(_)
             | Sign::Letter(_)
             | Sign::Before(_)
-            | Sign::Unknown => { Err(refusal(Cause::UnexpectedByte, place)) }
+            | Sign::Unknown => { Err(Layer::Rule.refusal(Cause::UnexpectedByte, place)) }
         }
     }
 
@@ -151,7 +119,7 @@ impl Reader {
             | Sign::Letter(_)
             | Sign::Before(_)
             | Sign::Between(_)
-            | Sign::Unknown => Err(refusal(Cause::UnexpectedByte, place)),
+            | Sign::Unknown => Err(Layer::Rule.refusal(Cause::UnexpectedByte, place)),
         }
     }
 
@@ -163,25 +131,25 @@ impl Reader {
         ensures { Stepped self.old Close place self.new result }
     {
         self.reduce(0, place);
-        if self.depth == 0 {
-            return Err(refusal(Cause::UnexpectedByte, place));
+        match self.frames.pop() {
+            Some(_) => Ok(()),
+            None => Err(Layer::Rule.refusal(Cause::UnexpectedByte, place)),
         }
-        self.depth -= 1;
-        Ok(())
     }
 
     /// An infix operator: what binds tighter on its left is its left operand.
     fn join(&mut self, op: Infix, place: usize) -> Result<(), Fault>
         requires tables { Tables self.old place }
         requires more { place < 128 }
-        requires some { 0 < self.old.count }
+        requires some { 0 < length (parts_of self.old) }
         requires numbered { all_locations (parts_of self.old) (frames_of self.old) ≡ counted_from 1 self.old.temporals }
         requires nine { self.old.temporals ≤ 9 }
         ensures { Joining self.old op place self.new result }
     {
-        let location = self.locate(is_temporal_infix(op), place)?;
-        self.reduce(infix_level(op), place);
-        self.push_frame(Frame::Halfway(op, self.count - 1, location));
+        let location = self.locate(op.is_temporal(), place)?;
+        self.reduce(op.level(), place);
+        let left = self.parts.len() - 1;
+        self.frames.push(Frame::Halfway(op, left, location));
         self.mode = Mode::Wanting;
         Ok(())
     }
@@ -192,7 +160,7 @@ impl Reader {
         requires more { place < 128 }
         ensures { Stepped self.old (sign byte) place self.new result }
     {
-        let sign = sign_of(byte);
+        let sign = Sign::from(byte);
         match self.mode {
             Mode::Wanting => self.want(sign, place),
             Mode::Having => self.have(sign, place),
@@ -207,13 +175,13 @@ impl Reader {
     {
         let length = text.len();
         match self.mode {
-            Mode::Wanting | Mode::Dashed => Err(refusal(Cause::TextTooShort, length)),
+            Mode::Wanting | Mode::Dashed => Err(Layer::Rule.refusal(Cause::TextTooShort, length)),
             Mode::Having => {
                 self.reduce(0, length);
-                if self.depth > 0 {
-                    return Err(refusal(Cause::TextTooShort, length));
+                if !self.frames.is_empty() {
+                    return Err(Layer::Rule.refusal(Cause::TextTooShort, length));
                 }
-                Ok(Rule::assemble(self.parts, self.count))
+                Ok(Rule::assemble(&self.parts))
             }
         }
     }

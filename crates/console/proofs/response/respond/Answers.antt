@@ -5,7 +5,7 @@ use Rattle.console.proofs.Answering.{brief_names, prints_answers, prints_fault}
 use Rattle.console.proofs.response.respond.Goals as goal
 
 pub respond_to-requires : goal.respond_to-requires
-respond_to-requires c = brief_names c.new.result.events c.new.result.most
+respond_to-requires c = brief_names c.new.result.outline.events c.new.result.most
 
 pub returns-in-Ok : goal.returns-in-Ok
 returns-in-Ok c =

@@ -1,11 +1,8 @@
 use Rattle.std.proofs.Common.{false, arith}
 use Rattle.formulas.specs.declared.Part.TheVariants.{Constant}
 use Rattle.formulas.proofs.Values.{sound_at}
-use Rattle.lassos.proofs.Rows.{row_below, rows_none, rows_more, rows_all}
+use Rattle.lassos.proofs.Rows.{row_below, rows_more}
 use Rattle.judge.proofs.rows.evaluate.Goals as goal
-
-pub loop-index-init : goal.loop-index-init
-loop-index-init g c = rows_none _ _ _ _
 
 pub part_row-requires : goal.part_row-requires
 part_row-requires g c =
@@ -14,6 +11,3 @@ part_row-requires g c =
 
 pub loop-index-preserved : goal.loop-index-preserved
 loop-index-preserved g c = rows_more _ _ _ _ _ _ _ (Constant false) c.requires.all c.args.shape.inside c.requires.operands c.loop-index-test.true c.loop-index.invariant c.part_row.ensures
-
-pub returns : goal.returns
-returns g c = rows_all _ _ _ _ _ _ c.requires.all c.args.shape.inside c.requires.some (omega arith) c.loop-index.invariant

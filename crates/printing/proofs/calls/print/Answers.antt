@@ -1,32 +1,14 @@
-use Rattle.std.proofs.Common.{◌≡◌, ℕ, ◌+◌, List, ◌++◌, length, take, drop, ap, ◌∙◌, arith, length-append}
+use Rattle.std.proofs.Common.{◌≡◌, ℕ, ◌+◌, List, ◌++◌, length, take, drop, ap, ◌∙◌}
 use borrow.Author.Tests.{true-leb}
 use Rattle.std.specs.List.{flat_map}
 use Rattle.unfolding.specs.declared.Press.{Press}
-use Rattle.printing.specs.Line.{held}
 use Rattle.printing.specs.Refusal.{fault_of}
 use Rattle.printing.specs.Text.{first_line, entries_of, entry_line}
-use Rattle.printing.proofs.Putting.{put_two, printed}
+use Rattle.printing.proofs.Putting.{put_two, printed, no_fault}
 use Rattle.printing.proofs.calls.print.Goals as goal
 
-pub put_line-end-requires : goal.put_line-end-requires
-put_line-end-requires g c =
-    let f = entry_line (g.D.Named.names c.args.dialogue.now) in
-    let a = first_line c.args.answer in
-    let b = flat_map f (entries_of c.args.answer) in
-    let n : length (held c.first_line.result) ≡ length a = ap length c.first_line.ensures in
-    omega (arith, n, length-append a b, true-leb (length (a ++ b)) (length c.args.out.now) c.if-not-fits.ensures)
-
-pub put_entries-requires : goal.put_entries-requires
-put_entries-requires g c =
-    let f = entry_line (g.D.Named.names c.args.dialogue.now) in
-    let a = first_line c.args.answer in
-    let b = flat_map f (entries_of c.args.answer) in
-    let n : length (held c.first_line.result) ≡ length a = ap length c.first_line.ensures in
-    let m : length (flat_map f c.entries_of.result.now) ≡ length b = ap (λ (l : List Press). length (flat_map f l)) c.entries_of.ensures in
-    omega (arith, n, m, length-append a b, c.put_line-end.ensures.end, c.put_line-end.auto.out, true-leb (length (a ++ b)) (length c.args.out.now) c.if-not-fits.ensures)
-
-pub returns : goal.returns
-returns g c =
+pub returns-clause-list : goal.returns-clause-list
+returns-clause-list g c =
     let f = entry_line (g.D.Named.names c.args.dialogue.now) in
     let a = first_line c.args.answer in
     let b = flat_map f (entries_of c.args.answer) in
@@ -38,5 +20,5 @@ returns g c =
     let e' : c.put_entries.result ≡ end + length b = c.put_entries.ensures.end ∙ ap (λ (l : List Press). end + length (flat_map f l)) c.entries_of.ensures in
     let s' : c.put_entries.new.out ≡ take end out' ++ (b ++ drop c.put_entries.result out') = c.put_entries.ensures.bytes ∙ ap (λ (l : List Press). take end out' ++ (flat_map f l ++ drop c.put_entries.result out')) c.entries_of.ensures in
     let two = put_two out out' c.put_entries.new.out a b end c.put_entries.result e s e' s' in
-    let all = printed (fault_of (g.D.Dialogue.table c.args.dialogue.now) c.args.answer) (a ++ b) out c.put_entries.new.out c.put_entries.result c.in_default.ensures (true-leb (length (a ++ b)) (length out) c.if-not-fits.ensures) two.0 two.1 in
-    record { answer = all.0; list = all.1 }
+    let fault = fault_of (g.D.Dialogue.table c.args.dialogue.now) c.args.answer in
+    (printed fault (a ++ b) out c.put_entries.new.out c.put_entries.result (no_fault fault _ c.in_ok-admit.ensures) (true-leb (length (a ++ b)) (length out) c.if-not-fits.ensures) two.0 two.1).1

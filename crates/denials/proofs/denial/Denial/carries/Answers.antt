@@ -1,29 +1,15 @@
-use Rattle.std.proofs.Common.{true, false, sym, arith}
-use Rattle.denials.proofs.Telling.{every_more, paid, paid_told, paid_all, unpaid}
+use Rattle.std.proofs.Common.{refl, ap, ◌∙◌, arith, rules, tests}
+use Rattle.std.proofs.lemmas.Iterator.{YieldsList-from_range}
+use Rattle.std.proofs.lemmas.Iterator.Search.{all_from_yields_List}
+use Rattle.lassos.specs.Truth.{every}
+use Rattle.denials.proofs.Ranges.{all_below}
+use Rattle.denials.proofs.Telling.{paid}
 use Rattle.denials.proofs.denial.Denial.carries.Goals as goal
-
-pub loop-location-preserved : goal.loop-location-preserved
-loop-location-preserved c =
-    every_more c.loop-location.location (paid c.args.self.now c.args.label c.args.owed c.args.next) c.loop-location.invariant
-    (sym
-    (paid_told c.args.self.now c.args.label c.args.owed c.args.next c.loop-location.location c.parts-parts.result.now c.contains-wanted.result true
-    (omega (arith, c.loop-location-test.true, c.args.self.now.counted))
-    c.parts-parts.ensures.value
-    c.contains-wanted.ensures
-    c.if-not-carried_if.ensures))
-
-pub returns-then-not-carried_if : goal.returns-then-not-carried_if
-returns-then-not-carried_if c =
-    unpaid c.args.self.now c.args.label c.args.owed c.args.next c.loop-location.location
-    (omega (arith, c.loop-location-test.true, c.args.self.now.counted))
-    (paid_told c.args.self.now c.args.label c.args.owed c.args.next c.loop-location.location c.parts-parts.result.now c.contains-wanted.result false
-    (omega (arith, c.loop-location-test.true, c.args.self.now.counted))
-    c.parts-parts.ensures.value
-    c.contains-wanted.ensures
-    c.if-not-carried_if.ensures)
 
 pub returns : goal.returns
 returns c =
-    paid_all c.args.self.now c.args.label c.args.owed c.args.next c.loop-location.location
-    (omega (arith, c.loop-location-test.false, c.loop-location.auto.location-end, c.args.self.now.counted))
-    c.loop-location.invariant
+    let d = c.args.self.now in
+    let test = paid d c.args.label c.args.owed c.args.next in
+    all_from_yields_List test _ _ _ c.all.ensures.ran (YieldsList-from_range 0 d.locations d.locations refl (omega arith)) (λ x b q k. search (rules, tests))
+    ∙ all_below test d.locations
+    ∙ ap (λ m. every m test) d.counted

@@ -1,22 +1,16 @@
-use Rattle.std.proofs.Common.{not, sym, ap, ◌∙◌, arith}
-use Rattle.denials.proofs.Telling.{every_more, needed, needed_told, needed_all, unneeded}
+use Rattle.std.proofs.Common.{ℕ, Bool, not, refl, sym, ap, ◌∙◌, arith, rules, tests}
+use Rattle.std.proofs.lemmas.Iterator.{YieldsList-from_range}
+use Rattle.std.proofs.lemmas.Iterator.Search.{all_from_yields_List}
+use Rattle.lassos.specs.Truth.{every}
+use Rattle.denials.proofs.Ranges.{all_below}
+use Rattle.denials.proofs.Telling.{spared, smallest_told}
 use Rattle.denials.proofs.denial.Denial.is_smallest.Goals as goal
 
-pub returns-then-spares : goal.returns-then-spares
-returns-then-spares c =
-    unneeded c.args.self.now c.args.label c.args.owed c.args.next c.loop-location.location
-    (omega (arith, c.loop-location-test.true, c.args.self.now.counted))
-    (sym c.if-not-carries.ensures)
-    (needed_told c.args.self.now c.args.label c.args.owed c.args.next c.loop-location.location c.spares.result c.spares.ensures ∙ ap not c.if-spares.true)
-
-pub loop-location-preserved : goal.loop-location-preserved
-loop-location-preserved c =
-    every_more c.loop-location.location (needed c.args.self.now c.args.label c.args.owed c.args.next) c.loop-location.invariant
-    (needed_told c.args.self.now c.args.label c.args.owed c.args.next c.loop-location.location c.spares.result c.spares.ensures ∙ ap not c.if-spares.false)
-
-pub returns : goal.returns
-returns c =
-    needed_all c.args.self.now c.args.label c.args.owed c.args.next c.loop-location.location
-    (omega (arith, c.loop-location-test.false, c.loop-location.auto.location-end, c.args.self.now.counted))
-    (sym c.if-not-carries.ensures)
-    c.loop-location.invariant
+pub returns-then-carries : goal.returns-then-carries
+returns-then-carries c =
+    let d = c.args.self.now in
+    let test : ℕ → Bool = λ k. not (spared d c.args.label c.args.owed c.args.next k) in
+    smallest_told d c.args.label c.args.owed c.args.next c.all.result (sym c.if-carries.ensures)
+    (all_from_yields_List test _ _ _ c.all.ensures.ran (YieldsList-from_range 0 d.locations d.locations refl (omega arith)) (λ x b q k. search (rules, tests))
+    ∙ all_below test d.locations
+    ∙ ap (λ m. every m test) d.counted)

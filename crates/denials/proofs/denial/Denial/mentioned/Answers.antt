@@ -1,21 +1,17 @@
-use Rattle.std.proofs.Common.{arith}
+use Rattle.std.proofs.Common.{arith, rules, tests}
+use Rattle.std.proofs.lemmas.Iterator.{YieldsList-from_range}
+use Rattle.std.proofs.lemmas.Iterator.Consumers.{YieldsList-from_filter}
+use Rattle.components.specs.Bits.{has}
 use Rattle.components.proofs.Bits.{has_none}
-use Rattle.denials.proofs.Telling.{mentioned_more, mentioned_all}
+use Rattle.denials.proofs.Ranges.{folded}
+use Rattle.denials.proofs.Telling.{Gathered, gathered_more, gathered_all}
 use Rattle.denials.proofs.denial.Denial.mentioned.Goals as goal
-
-pub loop-location-init : goal.loop-location-init
-loop-location-init c l b = has_none l
-
-pub loop-location-preserved : goal.loop-location-preserved
-loop-location-preserved c =
-    mentioned_more c.args.self.now c.args.owed c.loop-location.location c.loop-location.union c.select-union.result c.contains.result
-    (omega (arith, c.loop-location-test.true, c.args.self.now.counted))
-    c.contains.ensures
-    c.select-union.ensures
-    c.loop-location.invariant
 
 pub returns : goal.returns
 returns c =
-    mentioned_all c.args.self.now c.args.owed c.loop-location.location c.loop-location.union
-    (omega (arith, c.loop-location-test.false, c.loop-location.auto.location-end, c.args.self.now.counted))
-    c.loop-location.invariant
+    let d = c.args.self.now in
+    gathered_all d c.args.owed c.fold.result
+    (folded (Gathered d) c.fold.ensures.ran
+    (YieldsList-from_filter _ (has c.args.owed) (YieldsList-from_range 0 d.locations d.locations c.filter.ensures.source (omega arith)) c.filter.ensures.closure (λ x r q k. search (rules, tests)))
+    (λ l. has_none l)
+    (λ ys a x b q h k. gathered_more d ys a x b _ q h (search (rules, tests))))

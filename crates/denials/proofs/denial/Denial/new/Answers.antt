@@ -1,13 +1,19 @@
-use Rattle.std.proofs.Common.{◌≡◌, ◌+◌, arith}
+use Rattle.std.proofs.Common.{◌≡◌, ◌<◌, refl, arith}
 use Rattle.formulas.specs.Formula.{operators}
-use Rattle.rules.specs.Rules.{formula}
+use Rattle.rules.specs.Rules.{table, formula}
 use Rattle.unfolding.specs.Pushed.{locations}
+use Rattle.denials.proofs.Filling.{filled_none, filled_more}
 use Rattle.denials.proofs.denial.Denial.new.Goals as goal
 
-pub invariant_of-result : goal.invariant_of-result
-invariant_of-result c =
-    let e = c.parts-parts.ensures.value in
-    let p = c.debts_of-all.ensures in
-    let n : c.count_operators-locations.result ≡ operators (formula c.args.rule.now) = rw e at c.count_operators-locations.ensures in
-    let s : 1 + c.count_operators-locations.result ≡ locations (formula c.args.rule.now) = omega arith in
-    record { counted = s; placed = rw e at p.placed; owes = ∣ rw e at p.owes ∣₁; mentions = ∣ rw e at p.mentions ∣₁; promised = ∣ rw e at p.promised ∣₁ }
+pub loop-location-init : goal.loop-location-init
+loop-location-init c = filled_none (table c.args.rule.now) _ refl
+
+pub loop-location-preserved : goal.loop-location-preserved
+loop-location-preserved c =
+    let r = c.args.rule.now in
+    let e = c.parts.ensures.value in
+    let n : c.count_operators-locations.result ≡ operators (formula r) = rw e at c.count_operators-locations.ensures in
+    let nine = r.formed.nine in
+    let there : c.loop-location.location < locations (formula r) = omega (arith, c.loop-location-test.true) in
+    filled_more (table r) c.loop-location.location c.loop-location.debts c.loop-location.promises c.loop-location.invariant (omega arith) there
+    c.owing-owed.result c.owing-owed.ensures c.mentions.result c.mentions.ensures c.only.result c.select-promises.result c.only.ensures c.select-promises.ensures

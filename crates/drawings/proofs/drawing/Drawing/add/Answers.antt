@@ -1,13 +1,9 @@
-use Rattle.std.proofs.Common.{arith}
-use Rattle.tables.proofs.Cells.{fit_set}
+use Rattle.std.proofs.Common.{sym, ◌∙◌, arith}
+use Rattle.drawings.proofs.Rows.{adds}
 use Rattle.drawings.proofs.drawing.Drawing.add.Goals as goal
 
-pub invariant_of-self : goal.invariant_of-self
-invariant_of-self c =
+pub returns-clause-leaves : goal.returns-clause-leaves
+returns-clause-leaves c =
     let d = c.args.self.now in
-    record {
-      few = omega arith;
-      fit = fit_set d.labels d.count c.args.label (omega arith) (omega arith) d.fit;
-      within = λ k t is. omega (arith, d.within k t is);
-      clear = λ k past. d.clear k (omega arith);
-    }
+    adds d.count d.states c.args.label c.args.start c.in_ok-start.start c.new.result (omega arith) (omega arith) (sym c.start_mark.ensures ∙ c.in_ok-start.was)
+    c.new.ensures.start c.new.ensures.label c.new.ensures.next

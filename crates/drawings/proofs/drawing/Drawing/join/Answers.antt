@@ -1,13 +1,10 @@
-use Rattle.std.proofs.Common.{arith}
-use Rattle.tables.proofs.Cells.{within_set, clear_set}
+use Rattle.std.proofs.Common.{Some, sym, ◌∙◌, arith}
+use Rattle.drawings.proofs.Rows.{redirects_to, joins}
 use Rattle.drawings.proofs.drawing.Drawing.join.Goals as goal
 
-pub invariant_of-self : goal.invariant_of-self
-invariant_of-self c =
+pub returns-clause-leaves : goal.returns-clause-leaves
+returns-clause-leaves c =
     let d = c.args.self.now in
-    record {
-      few = d.few;
-      fit = d.fit;
-      within = within_set d.count d.next _ _ (omega arith) (λ t is. grind arith) d.within;
-      clear = clear_set d.count d.next _ _ (omega arith) d.clear;
-    }
+    let x = c.with_next.ensures in
+    redirects_to d.count d.states c.args.from c.args.event (Some c.args.to) c.with_next.result (omega arith) x.start x.label x.next (omega arith) (omega arith)
+    ∙ joins d.count d.states c.args.from c.args.event c.args.to (omega arith) (omega arith) (omega arith) (sym c.is_some.ensures ∙ c.if-is_some.false)

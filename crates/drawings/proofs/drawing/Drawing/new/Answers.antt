@@ -1,15 +1,14 @@
-use Rattle.std.proofs.Common.{ℕ, false, replicate, None, arith}
-use Rattle.tables.proofs.Cells.{get_or_same, blank_within, blanks}
+use Rattle.std.proofs.Common.{◌≡◌, ◌<◌, Some, None, get_or, arith}
+use Rattle.drawings.specs.Rows.{blank_state}
+use Rattle.drawings.specs.declared.drawing.state.State.{State}
+use Rattle.drawings.proofs.Rows.{at_same}
 use Rattle.drawings.proofs.drawing.Drawing.new.Goals as goal
 
 pub invariant_of-result : goal.invariant_of-result
 invariant_of-result c =
+    let x : State = c.new.result in
     record {
       few = omega arith;
-      fit = λ s. omega (arith, get_or_same {X = ℕ} 64 s 0);
-      within = blank_within 1024;
-      clear = λ k _. get_or_same 1024 k None;
+      fit = λ s. at_same (λ (y : State). y.label < 65536) 64 s x blank_state (omega (arith, c.new.ensures.label)) (omega arith);
+      within = λ s e t. at_same (λ (y : State). get_or y.next e None ≡ Some t → t < 0) 64 s x blank_state (λ is. let none = c.new.ensures.next e in grind arith) (λ is. grind arith);
     }
-
-pub returns : goal.returns
-returns c = blanks (replicate 64 false) (replicate 64 0) 1024

@@ -1,8 +1,8 @@
-use Rattle.std.proofs.Common.{arith}
-use Rattle.tables.proofs.Cells.{fit_set}
+use Rattle.std.proofs.Common.{sym, ◌∙◌, arith}
+use Rattle.drawings.proofs.Rows.{relabels_to}
 use Rattle.drawings.proofs.drawing.Drawing.relabel.Goals as goal
 
-pub invariant_of-self : goal.invariant_of-self
-invariant_of-self c =
+pub returns-clause-leaves : goal.returns-clause-leaves
+returns-clause-leaves c =
     let d = c.args.self.now in
-    record { few = d.few; fit = fit_set d.labels c.args.state c.args.label (omega arith) (omega arith) d.fit; within = d.within; clear = d.clear }
+    relabels_to d.count d.states c.args.state c.args.label c.args.start c.in_ok-start.start (omega arith) (omega arith) (sym c.start_mark.ensures ∙ c.in_ok-start.was)

@@ -3,11 +3,12 @@ use Rattle.tables.specs.Writes.{ReadsBack}
 use Rattle.tables.proofs.Cells.{cells_formed}
 use Rattle.tables.proofs.Writes.{file_size, write_fits, write_short, writes_all, reads_back}
 use Rattle.drawings.specs.Drawn.{drawn}
+use Rattle.drawings.specs.Rows.{start_at, label_at, next_at}
 use Rattle.drawings.specs.declared.drawing.Drawing.{Drawing}
 use Rattle.drawings.proofs.drawing.Drawing.write.Goals as goal
 
 back : (d : Drawing) → ReadsBack (drawn d)
-back d = reads_back (drawn d) (cells_formed d.count d.starts d.labels d.next d.few d.fit d.within d.clear) d.few refl
+back d = reads_back (drawn d) (cells_formed d.count (start_at d.states) (label_at d.states) (next_at d.states) d.few d.fit d.within) d.few refl
 
 pub returns-then-out-size : goal.returns-then-out-size
 returns-then-out-size c =

@@ -1,7 +1,0 @@
-use Rattle.std.proofs.Common.{◌≡◌, true}
-use Rattle.lassos.specs.Truth.{every}
-use Rattle.denials.proofs.Telling.{paid}
-use Rattle.denials.proofs.denial.Denial.carries.Given as goal
-
-abbrev pub invariant-loop-location : goal.invariant-loop-location
-invariant-loop-location l = every l.location (paid l.self l.label l.owed l.next) ≡ true
