@@ -30,9 +30,9 @@ fn letter_row<L: Labels>(labels: &L, letter: u8, row: &mut [u8])
 {
     // A copy of its own, so that writes to the row do not make the loop look for the labels anew.
     let labels = *labels;
-    for i in 0..row.len() {
+    for (i, value) in row.iter_mut().enumerate() {
         let label = labels.label(i);
-        row[i] = ((label >> letter) % 2 == 1) as u8;
+        *value = ((label >> letter) % 2 == 1) as u8;
     }
 }
 
@@ -67,10 +67,10 @@ fn start_prefix(op: Prefix, operand: &[u8], shape: Shape, row: &mut [u8])
     requires row { length row.old ≡ shape.count }
     ensures { Holds row.new shape.count (λ i. prefix_start op (lit operand.now i) (lit operand.now (after shape.count shape.lead_in i))) }
 {
-    for i in 0..shape.count {
+    for (i, value) in row.iter_mut().enumerate() {
         let here = operand[i] != 0;
         let next = operand[shape.after(i)] != 0;
-        row[i] = prefix_start(op, here, next) as u8;
+        *value = prefix_start(op, here, next) as u8;
     }
 }
 
@@ -80,8 +80,8 @@ fn start_infix(op: Infix, left: &[u8], right: &[u8], row: &mut [u8])
     requires right { length right.now ≡ length row.old }
     ensures { Holds row.new (length row.old) (λ i. infix_start op (lit left.now i) (lit right.now i)) }
 {
-    for i in 0..row.len() {
-        row[i] = infix_start(op, left[i] != 0, right[i] != 0) as u8;
+    for (i, value) in row.iter_mut().enumerate() {
+        *value = infix_start(op, left[i] != 0, right[i] != 0) as u8;
     }
 }
 

@@ -33,8 +33,8 @@ fn states_of<D: Dialogue>(dialogue: &D) -> [State; 64]
     ensures { (s : ℕ) → s < 64 → IsCopy (D.Dialogue.table dialogue.now) s (state_at result s) }
 {
     let mut states = [State::new(false, 0); 64];
-    for s in 0..ROOM {
-        states[s] = state_of(dialogue, s);
+    for (s, state) in states.iter_mut().enumerate() {
+        *state = state_of(dialogue, s);
     }
     states
 }
