@@ -9,6 +9,7 @@ use Rattle.tables.specs.Files.{fault_of, file_table, file_name, told}
 use Rattle.tables.specs.Layers.{barred}
 use Rattle.printing.specs.declared.answer.Answer.TheVariants.{Refused}
 use Rattle.printing.specs.Text.{text}
+use Rattle.printing.proofs.Putting.{no_fault}
 use Rattle.console.specs.Answers.{AnswersLine, Answers, no_lines, line_by_line, Prints, bad_file, good_file}
 use Rattle.console.specs.Lines.{lines_of}
 use Rattle.console.specs.Rooms.{Brief}
@@ -38,10 +39,6 @@ brief_names m h e = go (ltb e m) refl
         omega arith
     go false x = omega arith
 
-no_fault : (o : Option Fault) (u : Unit {0}) → Ok u ≡ told o → o ≡ None
-no_fault None u e = refl
-no_fault (Some fault) u e = let clash : ◌≡◌ {A = ℕ} 0 1 = cc in absurd (omega arith)
-
 the_fault : (o : Option Fault) (fault : Fault) → Err fault ≡ told o → o ≡ Some fault
 the_fault None fault e = let clash : ◌≡◌ {A = ℕ} 0 1 = cc in absurd (omega arith)
 the_fault (Some other) fault e = cc
@@ -53,7 +50,7 @@ module _ (file bytes : List ℕ) (t : Table) (front : bytes ≡ take 4096 file) 
       let P : Table → Type 0 = λ s. Answers (barred 0 s) (file_name s.events) (lines_of lines) out in
       let Q : List ℕ → Type 0 = λ b. Prints b lines out in
       let R : List ℕ → Type 0 = λ l. Prints (take 4096 file) l out in
-      subst R x (subst Q front (good_file (no_fault (fault_of bytes) u e) (subst P opens a)))
+      subst R x (subst Q front (good_file (sym (no_fault (fault_of bytes) u e)) (subst P opens a)))
 
   pub prints_fault : (input out : List ℕ) (fault : Fault) → Err fault ≡ told (fault_of bytes) → out ≡ text (file_name t.events) (Refused fault) → Prints (take 4096 file) (take 4096 input) out
   prints_fault input out fault e x =

@@ -68,7 +68,7 @@ fn count_steps(targets: &[u32], nodes: u32) -> usize {
 }
 
 /// 50 nodes with two steps each, of which a third is missing.
-pub fn show_small(rt: &HostRuntime) -> anyhow::Result<()> {
+pub(crate) fn show_small(rt: &HostRuntime) -> anyhow::Result<()> {
     let heap = rt.alloc();
     let targets = scatter(heap, 100, 75)?;
     let mut memory = Memory::new(heap, 50)?;
@@ -103,7 +103,7 @@ fn best_time(rt: &HostRuntime, graph: &Listed, memory: &mut Memory) -> anyhow::R
 }
 
 /// A random graph of so many nodes with four steps each.
-pub fn time_random(rt: &HostRuntime, nodes: u32) -> anyhow::Result<()> {
+pub(crate) fn time_random(rt: &HostRuntime, nodes: u32) -> anyhow::Result<()> {
     if nodes == 0 || nodes > 1_048_576 {
         return Err(anyhow!("the number of nodes is from 1 to 1048576"));
     }
