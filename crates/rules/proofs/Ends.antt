@@ -1,6 +1,6 @@
 -- From a reader to the answer: what each stop and the end say of the whole text.
 use Rattle.std.proofs.Common.{◌≡◌, ℕ, zero, suc, ◌+◌, ◌<◌, ◌≤◌, List, [], ◌∷◌, ◌++◌, length, get_or, take, Ok, Err, Result, sym, refl, ap, ◌∙◌, ap₂, inl, inr, add-one, arith}
-use Rattle.std.proofs.lemmas.List.{take_more, take_all, nil_from_length}
+use Rattle.std.proofs.lemmas.List.{take_more, take_all}
 use Rattle.faults.specs.declared.Fault.{Fault}
 use Rattle.formulas.specs.Formula.{Formula, operators}
 use Rattle.formulas.specs.Sign.{sign}
@@ -22,7 +22,7 @@ use Rattle.rules.specs.Reading.{parts_of, frames_of, stack, state, state_of, ope
 use Rattle.rules.specs.Refusal.{Refused, unexpected, too_many, too_short, Answered}
 use Rattle.rules.specs.Parts.{IsRule}
 use Rattle.rules.specs.Rules.{formula}
-use Rattle.rules.proofs.Tables.{frames_less, stack_push}
+use Rattle.rules.proofs.Tables.{frames_less, stack_push, parts_count}
 
 counted_length : (k n : ℕ) → length (counted_from k n) ≡ n
 counted_length k zero = refl
@@ -32,10 +32,11 @@ counted_length k (suc n) = ap suc (counted_length (suc k) n)
 written_brief : (text : List ℕ) (f : Formula) → Reads text f → length (written f) ≤ length text
 written_brief text f x = elim (only_shortest text f x) [ inl e ↦ let n : length text ≡ length (written f) = ap length e in omega arith | inr h ↦ omega arith ]
 
-pub whole_rule : (text : List ℕ) (n : ℕ) (r q : Reader) → n ≡ length text → Progress text n r → r.mode ≡ Having → Reduced 0 r n q → length (frames_of q) ≡ 0 → IsRule (parts_of q)
+pub whole_rule : (text : List ℕ) (n : ℕ) (r q : Reader) → n ≡ length text → Progress text n r → r.mode ≡ Having → Reduced 0 r n q → q.depth ≤ 0 → IsRule (parts_of q)
 whole_rule text n r q en p m d z =
     let h = p.sane in
-    let f : frames_of q ≡ [] = nil_from_length (frames_of q) z in
+    let e : q.depth ≡ 0 = omega arith in
+    let f : frames_of q ≡ [] = ap (λ (k : ℕ). take k q.frames) e in
     let num : all_locations (parts_of r) (frames_of r) ≡ counted_from 1 r.temporals = rw m at h.numbered in
     let l : whole_locations (parts_of q) ≡ counted_from 1 r.temporals = ap (λ (g : List Frame). open_locations (locations (parts_of q)) g ++ whole_locations (parts_of q)) (sym f) ∙ d.located ∙ num in
     let c : operators (whole_formula (parts_of q)) ≡ r.temporals = sym (locations_count (parts_of q)) ∙ ap length l ∙ counted_length 1 r.temporals in
@@ -46,8 +47,12 @@ whole_rule text n r q en p m d z =
     let v : reduce 0 (stack (parts_of r) (frames_of r)) (whole_formula (parts_of r)) ≡ ([], whole_formula (parts_of q)) = sym d.value ∙ ap (λ (g : List Frame). (stack (parts_of q) g, whole_formula (parts_of q))) f in
     let b = written_brief text (whole_formula (parts_of q)) (accepted_reads text (stack (parts_of r) (frames_of r)) (whole_formula (parts_of r)) (whole_formula (parts_of q)) ran v) in
     let sh = h.short in
-    let room = d.tables.room in
-    record { some = d.some; few = omega arith; operands = d.tables.fitting.operands; numbered = rw c l; brief = omega arith; nine = omega arith }
+    let t = d.tables in
+    let room = t.room in
+    let pl = t.parts_length in
+    let count : length (parts_of q) ≡ q.count = parts_count q (omega arith) in
+    let some = d.some in
+    record { some = omega arith; few = omega arith; operands = t.fitting.operands; numbered = rw c l; brief = omega arith; nine = omega arith }
 
 having_same : (K L : List machine.Frame) (f g : Formula) → having K f ≡ having L g → (K ≡ L) × (f ≡ g)
 having_same K L f g e = (cc, cc)
@@ -56,12 +61,16 @@ cons_nil : (x : machine.Frame) (K : List machine.Frame) → (x ∷ K) ≡ [] →
 cons_nil x K e = let z : ◌≡◌ {A = ℕ} 0 1 = cc in omega arith
 
 -- a frame is left open
-pub left_open : (r : Reader) (n : ℕ) (q : Reader) → Sane r n → r.mode ≡ Having → Reduced 0 r n q → 0 < length (frames_of q) → (K : List machine.Frame) (g h : Formula) → state_of r ≡ having K g → reduce 0 K g ≡ ([], h) → ⊥
+pub left_open : (r : Reader) (n : ℕ) (q : Reader) → Sane r n → r.mode ≡ Having → Reduced 0 r n q → 0 < q.depth → (K : List machine.Frame) (g h : Formula) → state_of r ≡ having K g → reduce 0 K g ≡ ([], h) → ⊥
 left_open r n q s m d z K g h e k =
+    let t = d.tables in
+    let room = t.room in
+    let fl = t.frames_length in
+    let sh = s.short in
     let st : state_of r ≡ having (stack (parts_of r) (frames_of r)) (whole_formula (parts_of r)) = ap (state (parts_of r) (frames_of r)) m in
     let u = having_same (stack (parts_of r) (frames_of r)) K (whole_formula (parts_of r)) g (sym st ∙ e) in
     let v : stack (parts_of q) (frames_of q) ≡ [] = ap (λ (x : List machine.Frame × Formula). x.0) (d.value ∙ ap₂ (reduce 0) u.0 u.1 ∙ k) in
-    let w = ap (stack (parts_of q)) (frames_less q z) ∙ stack_push (formulas (parts_of q)) [] (frames_of (less_frame q)) (top_frame q) in
+    let w = ap (stack (parts_of q)) (frames_less q z (omega arith)) ∙ stack_push (formulas (parts_of q)) [] (frames_of (less_frame q)) (top_frame q) in
     cons_nil _ _ (sym w ∙ v)
 
 run_more : (text : List ℕ) (i : ℕ) → i < length text → run (wanting []) (take (i + 1) text) ≡ step (run (wanting []) (take i text)) (sign (get_or text i 0))

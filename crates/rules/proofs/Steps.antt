@@ -1,6 +1,6 @@
 -- What each sign does to a reader, against the machine.
-use Rattle.std.proofs.Common.{◌≡◌, ℕ, zero, suc, ◌+◌, ◌-◌, ◌<◌, ◌≤◌, Bool, true, false, cond, List, [], ◌∷◌, ◌++◌, length, Ok, Err, Result, sym, refl, ap, ◌∙◌, ap₂, append_assoc, add-zero, arith}
-use Rattle.std.proofs.lemmas.List.{length_push, append-nil, nil_from_length}
+use Rattle.std.proofs.Common.{◌≡◌, ℕ, zero, suc, ◌+◌, ◌-◌, ◌<◌, ◌≤◌, Bool, true, false, cond, List, [], ◌∷◌, ◌++◌, length, get_or, take, Ok, Err, Result, sym, refl, ap, ◌∙◌, ap₂, append_assoc, add-zero, arith, length-set}
+use Rattle.std.proofs.lemmas.List.{length_push, append-nil}
 use Rattle.std.proofs.lemmas.Bool.{lt-ltb}
 use Rattle.formulas.specs.declared.Part.{Part}
 use Rattle.formulas.specs.declared.Part.TheVariants.{Constant, Letter}
@@ -25,7 +25,7 @@ use Rattle.rules.specs.Reading.{parts_of, frames_of, binds, frame_over, stack, s
 use Rattle.rules.specs.Refusal.{rule_fault}
 use Rattle.faults.specs.declared.Cause.TheVariants.{UnexpectedByte, TooManyOperators}
 use Rattle.faults.specs.declared.Fault.{Fault}
-use Rattle.rules.proofs.Tables.{whole_new, locations_new, stack_push, open_push, lefts_push, lefts_pop, lefts_more, stack_kept, open_kept, frames_less}
+use Rattle.rules.proofs.Tables.{whole_new, locations_new, stack_push, open_push, lefts_push, lefts_pop, lefts_more, stack_kept, open_kept, parts_with, frames_with, frames_less, parts_count}
 use Rattle.rules.proofs.Reduce.{bound_is}
 
 -- one number more
@@ -44,36 +44,45 @@ counted_more true n location e =
 counted_more false n location e = let z : n + 0 ≡ n = add-zero n in rw z (append-nil (counted_from 1 n))
 
 -- the tables with a part more
-tables_part : (r : Reader) (p : Part) (n : ℕ) → Tables r n → sound_part (length (parts_of r)) p ≡ true → Tables (with_part r p) (n + 1)
-tables_part r p n t s =
+tables_part : (r : Reader) (p : Part) (n : ℕ) → n < 128 → Tables r n → sound_part r.count p ≡ true → Tables (with_part r p) (n + 1)
+tables_part r p n h t s =
     let room = t.room in
+    let pl = t.parts_length in
+    let k = parts_count r (omega arith) in
+    let e = parts_with r p (omega arith) in
     let f = t.fitting in
-    let more = length_push (parts_of r) p in
-    record {
-      fitting = record { operands = sound_push (parts_of r) p f.operands s; lefts = lefts_more (length (parts_of r)) (length (parts_of r ++ (p ∷ []))) (frames_of r) (omega arith) f.lefts };
-      room = omega arith;
-    }
+    let s' : sound_part (length (parts_of r)) p ≡ true = rw k s in
+    let g : Fitting (parts_of r ++ (p ∷ [])) (frames_of r) = record { operands = sound_push (parts_of r) p f.operands s'; lefts = lefts_more (length (parts_of r)) (length (parts_of r ++ (p ∷ []))) (frames_of r) (omega (arith, length_push (parts_of r) p)) f.lefts } in
+    record { fitting = rw e g; room = omega arith; parts_length = length-set r.parts r.count p ∙ pl; frames_length = t.frames_length }
 
 -- the tables with a frame more
-tables_frame : (r : Reader) (x : Frame) (n : ℕ) → Tables r n → left_within (length (parts_of r)) x ≡ true → Tables (with_frame r x) (n + 1)
-tables_frame r x n t s =
+tables_frame : (r : Reader) (x : Frame) (n : ℕ) → n < 128 → Tables r n → left_within r.count x ≡ true → Tables (with_frame r x) (n + 1)
+tables_frame r x n h t s =
     let room = t.room in
+    let pl = t.parts_length in
+    let fl = t.frames_length in
+    let k = parts_count r (omega arith) in
+    let e = frames_with r x (omega arith) in
     let f = t.fitting in
-    let more = length_push (frames_of r) x in
-    record { fitting = record { operands = f.operands; lefts = lefts_push (length (parts_of r)) (frames_of r) x f.lefts s }; room = omega arith }
+    let s' : left_within (length (parts_of r)) x ≡ true = rw k s in
+    let g : Fitting (parts_of r) (frames_of r ++ (x ∷ [])) = record { operands = f.operands; lefts = lefts_push (length (parts_of r)) (frames_of r) x f.lefts s' } in
+    record { fitting = rw e g; room = omega arith; parts_length = pl; frames_length = length-set r.frames r.depth x ∙ fl }
 
 -- an operand of one sign
 pub operand_moves : (r : Reader) (n : ℕ) (s : Sign) (p : Part) (f : Formula)
-    → Sane r n → n < 128 → r.mode ≡ Wanting → sound_part (length (parts_of r)) p ≡ true
+    → Sane r n → n < 128 → r.mode ≡ Wanting → sound_part r.count p ≡ true
     → formula_over (formulas (parts_of r)) p ≡ f → locations_over (locations (parts_of r)) p ≡ []
     → step (wanting (stack (parts_of r) (frames_of r))) s ≡ having (stack (parts_of r) (frames_of r)) f → temporal_of s ≡ false
     → Moved r s n (in_mode (with_part r p) Having)
 operand_moves r n s p f h lt m sp fe le se te =
     let t = h.tables in
+    let room = t.room in
+    let pl = t.parts_length in
     let P = parts_of r in
     let F = frames_of r in
-    let more = length_push P p in
-    let tb = tables_part r p n t sp in
+    let q = in_mode (with_part r p) Having in
+    let e : parts_of q ≡ P ++ (p ∷ []) = parts_with r p (omega arith) in
+    let tb = tables_part r p n lt t sp in
     let k = stack_kept P p F t.fitting.lefts in
     let o = open_kept P p F t.fitting.lefts in
     let w = whole_new P p ∙ fe in
@@ -83,39 +92,44 @@ operand_moves r n s p f h lt m sp fe le se te =
     let st : state_of r ≡ wanting (stack P F) = ap (state P F) m in
     record {
       sane = record {
-        tables = record { fitting = tb.fitting; room = tb.room };
+        tables = record { fitting = tb.fitting; room = tb.room; parts_length = tb.parts_length; frames_length = tb.frames_length };
         short = omega arith;
         part = omega arith;
-        numbered = ap₂ (λ (a b : List ℕ). a ++ b) o l ∙ append-nil (open_locations (locations P) F) ∙ num;
+        numbered = rw e (ap₂ (λ (a b : List ℕ). a ++ b) o l ∙ append-nil (open_locations (locations P) F) ∙ num);
         nine = h.nine;
       };
-      state_is = ap₂ having k w ∙ sym se ∙ ap (λ (x : State). step x s) (sym st);
+      state_is = rw e (ap₂ having k w) ∙ sym se ∙ ap (λ (x : State). step x s) (sym st);
       temporals_are = rw (te, z);
     }
 
 -- a frame that waits for an operand: a bracket, or a prefix operator
 pub frame_moves : (r : Reader) (n : ℕ) (s : Sign) (x : Frame) (y : machine.Frame) (c : ℕ)
-    → Sane r n → n < 128 → r.mode ≡ Wanting → left_within (length (parts_of r)) x ≡ true → frame_over (formulas (parts_of r)) x ≡ y
+    → Sane r n → n < 128 → r.mode ≡ Wanting → left_within r.count x ≡ true → frame_over (formulas (parts_of r)) x ≡ y
     → counted_from 1 r.temporals ++ frame_locations (locations (parts_of r)) x ≡ counted_from 1 c → c ≤ 9 → c ≡ r.temporals + one_if (temporal_of s)
     → step (wanting (stack (parts_of r) (frames_of r))) s ≡ wanting (y ∷ stack (parts_of r) (frames_of r))
     → Moved r s n (with_frame (with_temporals r c) x)
 frame_moves r n s x y c h lt m lw fe le nine ce se =
+    let t = h.tables in
+    let room = t.room in
+    let fl = t.frames_length in
     let P = parts_of r in
     let F = frames_of r in
-    let tb = tables_frame r x n h.tables lw in
+    let q = with_frame (with_temporals r c) x in
+    let e : frames_of q ≡ F ++ (x ∷ []) = frames_with r x (omega arith) in
+    let tb = tables_frame r x n lt t lw in
     let num : mode_locations P F Wanting ≡ counted_from 1 r.temporals = rw m at h.numbered in
     let st : state_of r ≡ wanting (stack P F) = ap (state P F) m in
     let o : open_locations (locations P) (F ++ (x ∷ [])) ≡ counted_from 1 c = open_push (locations P) F x ∙ ap (λ (a : List ℕ). a ++ frame_locations (locations P) x) num ∙ le in
     let k : stack P (F ++ (x ∷ [])) ≡ y ∷ stack P F = stack_push (formulas P) [] F x ∙ ap (λ (z : machine.Frame). z ∷ stack P F) fe in
     record {
       sane = record {
-        tables = record { fitting = tb.fitting; room = tb.room };
+        tables = record { fitting = tb.fitting; room = tb.room; parts_length = tb.parts_length; frames_length = tb.frames_length };
         short = omega arith;
         part = rw m tt;
-        numbered = rw m o;
+        numbered = rw (m, e) o;
         nine = nine;
       };
-      state_is = rw m (ap wanting k ∙ sym se);
+      state_is = rw (m, e) (ap wanting k ∙ sym se);
       temporals_are = ce;
     }
 
@@ -125,10 +139,13 @@ only_bracket (Waiting op location) h = absurd (omega arith)
 only_bracket (Halfway op l location) h = absurd (omega (arith, right_low op))
 
 -- after the frames inside a bracket are reduced, the bracket is on top
-closes : (r : Reader) (n : ℕ) (q : Reader) → Reduced 0 r n q → 0 < length (frames_of q) → frames_of q ≡ frames_of (less_frame q) ++ (Bracket ∷ [])
-closes r n q h d =
+closes : (r : Reader) (n : ℕ) (q : Reader) → n < 128 → Reduced 0 r n q → 0 < q.depth → frames_of q ≡ frames_of (less_frame q) ++ (Bracket ∷ [])
+closes r n q lt h d =
+    let t = h.tables in
+    let room = t.room in
+    let fl = t.frames_length in
     let P = parts_of q in
-    let f : frames_of q ≡ frames_of (less_frame q) ++ (top_frame q ∷ []) = frames_less q d in
+    let f : frames_of q ≡ frames_of (less_frame q) ++ (top_frame q ∷ []) = frames_less q d (omega arith) in
     let s : stack P (frames_of q) ≡ frame_over (formulas P) (top_frame q) ∷ stack P (frames_of (less_frame q)) = ap (stack P) f ∙ stack_push (formulas P) [] (frames_of (less_frame q)) (top_frame q) in
     let b : bound_top (reduce 0 (stack (parts_of r) (frames_of r)) (whole_formula (parts_of r))).0 ≤ 0 = reduce_bound 0 (stack (parts_of r) (frames_of r)) (whole_formula (parts_of r)) in
     let v : stack P (frames_of q) ≡ (reduce 0 (stack (parts_of r) (frames_of r)) (whole_formula (parts_of r))).0 = ap (λ (x : List machine.Frame × Formula). x.0) h.value in
@@ -137,14 +154,13 @@ closes r n q h d =
     let x : top_frame q ≡ Bracket = only_bracket (top_frame q) (omega arith) in
     f ∙ ap (λ (y : Frame). frames_of (less_frame q) ++ (y ∷ [])) x
 
-pub close_moves : (r : Reader) (n : ℕ) (q : Reader) → Sane r n → n < 128 → r.mode ≡ Having → Reduced 0 r n q → 0 < length (frames_of q) → Moved r Close n (less_frame q)
+pub close_moves : (r : Reader) (n : ℕ) (q : Reader) → Sane r n → n < 128 → r.mode ≡ Having → Reduced 0 r n q → 0 < q.depth → Moved r Close n (less_frame q)
 close_moves r n q sane lt m h d =
     let t = h.tables in
     let room = t.room in
     let P = parts_of q in
     let F = frames_of (less_frame q) in
-    let f = closes r n q h d in
-    let less : length (frames_of q) ≡ length F + 1 = ap length f ∙ length_push F Bracket in
+    let f = closes r n q lt h d in
     let fit : Fitting P (F ++ (Bracket ∷ [])) = rw f at t.fitting in
     let l = lefts_pop (length P) F Bracket fit.lefts in
     let mq : q.mode ≡ Having = h.mode ∙ m in
@@ -159,7 +175,7 @@ close_moves r n q sane lt m h d =
     let ni = sane.nine in
     record {
       sane = record {
-        tables = record { fitting = record { operands = t.fitting.operands; lefts = l.0 }; room = omega arith };
+        tables = record { fitting = record { operands = t.fitting.operands; lefts = l.0 }; room = omega arith; parts_length = t.parts_length; frames_length = t.frames_length };
         short = omega arith;
         part = rw mq sm;
         numbered = rw (mq, tq) (o ∙ h.located ∙ num);
@@ -169,11 +185,11 @@ close_moves r n q sane lt m h d =
       temporals_are = tq ∙ sym z;
     }
 
-pub close_fails : (r : Reader) (n : ℕ) (q : Reader) → r.mode ≡ Having → Reduced 0 r n q → length (frames_of q) ≡ 0 → step (state_of r) Close ≡ failed
+pub close_fails : (r : Reader) (n : ℕ) (q : Reader) → r.mode ≡ Having → Reduced 0 r n q → q.depth ≡ 0 → step (state_of r) Close ≡ failed
 close_fails r n q m h d =
     let P = parts_of q in
     let st : state_of r ≡ having (stack (parts_of r) (frames_of r)) (whole_formula (parts_of r)) = ap (state (parts_of r) (frames_of r)) m in
-    let f : frames_of q ≡ [] = nil_from_length (frames_of q) d in
+    let f : frames_of q ≡ [] = ap (λ (k : ℕ). take k q.frames) d in
     let s : stack P (frames_of q) ≡ [] = ap (stack P) f in
     ap (λ (x : State). step x Close) st ∙ ap close (sym h.value) ∙ ap (λ (K : List machine.Frame). close_top K (whole_formula P)) s
 
@@ -181,29 +197,37 @@ pub join_moves : (r : Reader) (op : Infix) (n : ℕ) (location : ℕ) (q : Reade
     → n < 128 → r.temporals + one_if (temporal_infix op) ≤ 9 → location ≡ cond (temporal_infix op) (r.temporals + 1) 0
     → all_locations (parts_of r) (frames_of r) ≡ counted_from 1 r.temporals
     → Reduced (level op) (with_temporals r (r.temporals + one_if (temporal_infix op))) n q
-    → Joined r op n (in_mode (with_frame q (Halfway op (length (parts_of q) - 1) location)) Wanting)
+    → Joined r op n (in_mode (with_frame q (Halfway op (q.count - 1) location)) Wanting)
 join_moves r op n location q lt nine le num h =
+    let t = h.tables in
+    let room = t.room in
+    let pl = t.parts_length in
+    let fl = t.frames_length in
     let sm = h.some in
     let P = parts_of q in
     let F = frames_of q in
-    let x = Halfway op (length P - 1) location in
-    let lw : left_within (length P) x ≡ true = lt-ltb (length P - 1) (length P) (omega arith) in
-    let tb = tables_frame q x n h.tables lw in
-    let s : stack P (F ++ (x ∷ [])) ≡ halfway op (whole_formula P) ∷ stack P F = stack_push (formulas P) [] F x in
+    let x = Halfway op (q.count - 1) location in
+    let k = parts_count q (omega arith) in
+    let e : frames_of (with_frame q x) ≡ F ++ (x ∷ []) = frames_with q x (omega arith) in
+    let lw : left_within q.count x ≡ true = lt-ltb (q.count - 1) q.count (omega arith) in
+    let tb = tables_frame q x n lt t lw in
+    let w : get_or (formulas P) (q.count - 1) (constant false) ≡ whole_formula P = ap (λ (i : ℕ). get_or (formulas P) (i - 1) (constant false)) (sym k) in
+    let wl : get_or (locations P) (q.count - 1) [] ≡ whole_locations P = ap (λ (i : ℕ). get_or (locations P) (i - 1) []) (sym k) in
+    let s : stack P (F ++ (x ∷ [])) ≡ halfway op (whole_formula P) ∷ stack P F = stack_push (formulas P) [] F x ∙ ap (λ (f : Formula). halfway op f ∷ stack P F) w in
     let v : push op (stack P F, whole_formula P) ≡ push op (reduce (level op) (stack (parts_of r) (frames_of r)) (whole_formula (parts_of r))) = ap (push op) h.value in
     let loc : List ℕ = cond (temporal_infix op) (location ∷ []) [] in
-    let o : open_locations (locations P) (F ++ (x ∷ [])) ≡ all_locations P F ++ loc = open_push (locations P) F x ∙ sym (append_assoc (open_locations (locations P) F) (whole_locations P) loc) in
+    let o : open_locations (locations P) (F ++ (x ∷ [])) ≡ all_locations P F ++ loc = open_push (locations P) F x ∙ ap (λ (a : List ℕ). open_locations (locations P) F ++ (a ++ loc)) wl ∙ sym (append_assoc (open_locations (locations P) F) (whole_locations P) loc) in
     let c : all_locations P F ++ loc ≡ counted_from 1 (r.temporals + one_if (temporal_infix op)) = ap (λ (a : List ℕ). a ++ loc) (h.located ∙ num) ∙ counted_more (temporal_infix op) r.temporals location le in
     let tq = h.temporals in
     record {
       sane = record {
-        tables = record { fitting = tb.fitting; room = tb.room };
+        tables = record { fitting = tb.fitting; room = tb.room; parts_length = tb.parts_length; frames_length = tb.frames_length };
         short = omega arith;
         part = tt;
-        numbered = rw tq (o ∙ c);
+        numbered = rw (e, tq) (o ∙ c);
         nine = omega arith;
       };
-      state_is = ap wanting s ∙ v;
+      state_is = ap wanting (ap (stack P) e ∙ s) ∙ v;
       temporals_are = tq;
     }
 
@@ -241,7 +265,7 @@ pub join_returns : (r : Reader) (op : Infix) (n : ℕ) (r1 q q2 : Reader) (tempo
     → temporal ≡ temporal_infix op → lv ≡ level op
     → (r1 ≡ with_temporals r (r.temporals + one_if temporal)) × (location ≡ cond temporal (r.temporals + 1) 0) × (r.temporals + one_if temporal ≤ 9)
     → n < 128 → all_locations (parts_of r) (frames_of r) ≡ counted_from 1 r.temporals
-    → Reduced lv r1 n q → q2 ≡ with_frame q (Halfway op (length (parts_of q) - 1) location) → Joined r op n (in_mode q2 Wanting)
+    → Reduced lv r1 n q → q2 ≡ with_frame q (Halfway op (q.count - 1) location) → Joined r op n (in_mode q2 Wanting)
 join_returns r op n r1 q q2 temporal lv location et el (e1, e2, e3) lt num h eq =
     let h1 : Reduced (level op) r1 n q = rw el at h in
     let h2 : Reduced (level op) (with_temporals r (r.temporals + one_if temporal)) n q = rw e1 at h1 in

@@ -1,6 +1,6 @@
 -- A reader's parts and frames, as one is added or taken away.
 use Rattle.std.proofs.Common.{◌≡◌, ℕ, ◌+◌, ◌-◌, ◌<◌, ◌≤◌, true, false, cond, List, [], ◌∷◌, ◌++◌, length, get_or, take, sym, refl, ap, ◌∙◌, ap₂, append_assoc, zero-add, arith}
-use Rattle.std.proofs.lemmas.List.{get_or_append_left, get_or_at, length_push, take_more, take_all, append-nil}
+use Rattle.std.proofs.lemmas.List.{get_or_append_left, get_or_at, length_push, take_more, take_more_set, append-nil, length-take-le}
 use Rattle.std.proofs.lemmas.Bool.{ltb-true, lt-ltb}
 use Rattle.formulas.specs.declared.Part.{Part}
 use Rattle.formulas.specs.Formula.{Formula, constant, temporal_infix}
@@ -10,7 +10,7 @@ use Rattle.formulas.proofs.Machine as machine
 use Rattle.rules.specs.declared.reader.Frame.{Frame}
 use Rattle.rules.specs.declared.reader.Frame.TheVariants.{Bracket, Waiting, Halfway}
 use Rattle.rules.specs.declared.reader.Reader.{Reader}
-use Rattle.rules.specs.Reading.{frames_of, frame_over, stack_on, stack, frame_locations, open_locations, left_within, lefts_within, less_frame, top_frame}
+use Rattle.rules.specs.Reading.{parts_of, frames_of, frame_over, stack_on, stack, frame_locations, open_locations, left_within, lefts_within, with_part, with_frame, less_frame, top_frame}
 
 -- one value more
 module _ {A : Type 0} (make : List A → Part → A) (d : A) (P : List Part) (p : Part) where
@@ -102,10 +102,17 @@ open_same ls ms n (y ∷ F) h same =
 pub open_kept : (P : List Part) (p : Part) (F : List Frame) → lefts_within (length P) F ≡ true → open_locations (locations (P ++ (p ∷ []))) F ≡ open_locations (locations P) F
 open_kept P p F h = open_same (locations P) (locations (P ++ (p ∷ []))) (length P) F h (value_kept locations_over [] P p)
 
--- the frames are those below the newest, and the newest
-pub frames_less : (r : Reader) → 0 < length (frames_of r) → frames_of r ≡ frames_of (less_frame r) ++ (top_frame r ∷ [])
-frames_less r h =
-    let n = length (frames_of r) in
-    let e : n ≡ (n - 1) + 1 = omega arith in
-    let all : take n (frames_of r) ≡ frames_of r = take_all n (frames_of r) (omega arith) in
-    sym all ∙ ap (λ (m : ℕ). take m (frames_of r)) e ∙ take_more (frames_of r) (n - 1) Bracket (omega arith)
+-- the lists of a changed reader
+pub parts_with : (r : Reader) (p : Part) → r.count < length r.parts → parts_of (with_part r p) ≡ parts_of r ++ (p ∷ [])
+parts_with r p h = take_more_set r.parts r.count p h
+
+pub frames_with : (r : Reader) (x : Frame) → r.depth < length r.frames → frames_of (with_frame r x) ≡ frames_of r ++ (x ∷ [])
+frames_with r x h = take_more_set r.frames r.depth x h
+
+pub frames_less : (r : Reader) → 0 < r.depth → r.depth ≤ length r.frames → frames_of r ≡ frames_of (less_frame r) ++ (top_frame r ∷ [])
+frames_less r h k =
+    let e : r.depth ≡ (r.depth - 1) + 1 = omega arith in
+    ap (λ (n : ℕ). take n r.frames) e ∙ take_more r.frames (r.depth - 1) Bracket (omega arith)
+
+pub parts_count : (r : Reader) → r.count ≤ length r.parts → length (parts_of r) ≡ r.count
+parts_count r h = length-take-le r.count r.parts h

@@ -1,6 +1,6 @@
 -- What a reader's fields stand for, in terms of the machine that the grammar's proofs are about. Only contracts inside
 -- this crate speak of it.
-use Rattle.std.specs.Prelude.{◌≡◌, ℕ, ◌+◌, ◌-◌, ◌<◌, ◌≤◌, Bool, true, false, cond, List, [], ◌∷◌, ◌++◌, length, take, Ok, Err, Result, ◌≢◌, nat_lt, slice_index_or}
+use Rattle.std.specs.Prelude.{◌≡◌, ℕ, ◌+◌, ◌-◌, ◌<◌, ◌≤◌, Bool, true, false, cond, List, [], ◌∷◌, ◌++◌, length, take, Ok, Err, Result, ◌≢◌, nat_lt, slice_index_or, slice_set}
 use Rattle.formulas.specs.declared.Infix.{Infix}
 use Rattle.formulas.specs.declared.Part.{Part}
 use Rattle.formulas.specs.declared.Part.TheVariants.{Constant, Unary, Binary}
@@ -27,10 +27,10 @@ use Rattle.rules.specs.declared.reader.Mode.TheVariants.{Wanting, Having, Dashed
 use Rattle.rules.specs.declared.reader.Reader.{Reader}
 
 abbrev pub parts_of : Reader → List Part
-parts_of r = r.parts.items
+parts_of r = take r.count r.parts
 
 abbrev pub frames_of : Reader → List Frame
-frames_of r = r.frames.items
+frames_of r = take r.depth r.frames
 
 -- how tight a frame binds its operand
 abbrev pub binds : Frame → ℕ
@@ -95,42 +95,39 @@ pub record Fitting (ps : List Part) (fs : List Frame) : Type 0 where
   pub operands : sound ps ≡ true
   pub lefts : lefts_within (length ps) fs ≡ true
 
--- the two tables of a reader, with at most n parts and frames together
+-- the two tables of a reader, in which at most n places are taken
 pub record Tables (r : Reader) (n : ℕ) : Type 0 where
   pub fitting : Fitting (parts_of r) (frames_of r)
-  pub room : length (frames_of r) + length (parts_of r) ≤ n
+  pub room : r.depth + r.count ≤ n
+  pub parts_length : length r.parts ≡ 128
+  pub frames_length : length r.frames ≡ 128
 
 -- a reader that has read n bytes
 pub record Sane (r : Reader) (n : ℕ) : Type 0 where
   pub tables : Tables r n
   pub short : n ≤ 128
-  pub part : HasPart r.mode (length (parts_of r))
+  pub part : HasPart r.mode r.count
   pub numbered : mode_locations (parts_of r) (frames_of r) r.mode ≡ counted_from 1 r.temporals
   pub nine : r.temporals ≤ 9
 
 abbrev pub state_of : Reader → State
 state_of r = state (parts_of r) (frames_of r) r.mode
 
--- with other frames
-abbrev pub with_frames : Reader → List Frame → Reader
-with_frames r fs = record { parts = r.parts; frames = record { items = fs }; mode = r.mode; temporals = r.temporals }
-
 -- a part or a frame more, or a frame less
 abbrev pub with_part : Reader → Part → Reader
-with_part r p = record { parts = record { items = parts_of r ++ (p ∷ []) }; frames = r.frames; mode = r.mode; temporals = r.temporals }
+with_part r p = record { parts = slice_set r.parts r.count p; count = r.count + 1; frames = r.frames; depth = r.depth; mode = r.mode; temporals = r.temporals }
 
 abbrev pub with_frame : Reader → Frame → Reader
-with_frame r x = with_frames r (frames_of r ++ (x ∷ []))
+with_frame r x = record { parts = r.parts; count = r.count; frames = slice_set r.frames r.depth x; depth = r.depth + 1; mode = r.mode; temporals = r.temporals }
 
 abbrev pub less_frame : Reader → Reader
-less_frame r = with_frames r (take (length (frames_of r) - 1) (frames_of r))
+less_frame r = record { parts = r.parts; count = r.count; frames = r.frames; depth = r.depth - 1; mode = r.mode; temporals = r.temporals }
 
 abbrev pub in_mode : Reader → Mode → Reader
-in_mode r m = record { parts = r.parts; frames = r.frames; mode = m; temporals = r.temporals }
+in_mode r m = record { parts = r.parts; count = r.count; frames = r.frames; depth = r.depth; mode = m; temporals = r.temporals }
 
--- the newest frame, or a bracket where there is none
 abbrev pub top_frame : Reader → Frame
-top_frame r = slice_index_or (frames_of r) (length (frames_of r) - 1) Bracket
+top_frame r = slice_index_or r.frames (r.depth - 1) Bracket
 
 -- the part that a frame makes with its operand
 abbrev pub completed : Frame → ℕ → Part
@@ -140,19 +137,19 @@ completed (Halfway op l location) i = Binary op l i location
 
 -- the frame on top takes the last part as its operand
 abbrev pub applied : Reader → Reader
-applied r = with_part (less_frame r) (completed (top_frame r) (length (parts_of r) - 1))
+applied r = with_part (less_frame r) (completed (top_frame r) (r.count - 1))
 
 -- after the frames that bind tighter than c have taken their operands
 pub record Reduced (c : ℕ) (r : Reader) (n : ℕ) (q : Reader) : Type 0 where
   pub tables : Tables q n
-  pub some : 0 < length (parts_of q)
+  pub some : 0 < q.count
   pub value : (stack (parts_of q) (frames_of q), whole_formula (parts_of q)) ≡ reduce c (stack (parts_of r) (frames_of r)) (whole_formula (parts_of r))
   pub located : all_locations (parts_of q) (frames_of q) ≡ all_locations (parts_of r) (frames_of r)
   pub mode : q.mode ≡ r.mode
   pub temporals : q.temporals ≡ r.temporals
 
 abbrev pub with_temporals : Reader → ℕ → Reader
-with_temporals r n = record { parts = r.parts; frames = r.frames; mode = r.mode; temporals = n }
+with_temporals r n = record { parts = r.parts; count = r.count; frames = r.frames; depth = r.depth; mode = r.mode; temporals = n }
 
 -- a temporal operator counts one
 abbrev pub one_if : Bool → ℕ

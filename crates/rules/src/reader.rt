@@ -1,5 +1,4 @@
 //! The state of reading a rule text, byte by byte: the parts that are complete, and the frames that wait.
-use arrayvec::ArrayVec;
 use formulas::{Infix, Part, Prefix};
 
 pub mod acts;
@@ -7,9 +6,8 @@ pub mod steps;
 
 /// What waits for the operand that comes next: a bracket to be closed, a prefix operator with its location, or an
 /// infix operator with its left operand and its location.
-#[derive(Clone, Copy, Default)]
+#[derive(Clone, Copy)]
 pub enum Frame {
-    #[default]
     Bracket,
     Waiting(Prefix, usize),
     Halfway(Infix, usize, usize),
@@ -25,10 +23,12 @@ pub enum Mode {
 
 /// A reader in the midst of a text: the complete parts, the frames that wait, the newest last, and how many temporal
 /// operators there were.
-#[derive(Drop)]
+#[derive(Clone, Copy)]
 pub struct Reader {
-    parts: ArrayVec<Part, 128>,
-    frames: ArrayVec<Frame, 128>,
+    parts: [Part; 128],
+    count: usize,
+    frames: [Frame; 128],
+    depth: usize,
     mode: Mode,
     temporals: usize,
 }

@@ -1,6 +1,6 @@
 //! What a reader does to its parts and frames.
-ghost use Rattle.std.specs.Prelude.{◌≡◌, ◌+◌, ◌<◌, ◌≤◌, length};
-ghost use Rattle.rules.specs.Reading.{Tables, Reduced, binds, parts_of, frames_of, top_frame, completed, applied};
+ghost use Rattle.std.specs.Prelude.{◌≡◌, ◌+◌, ◌<◌, ◌≤◌};
+ghost use Rattle.rules.specs.Reading.{Tables, Reduced, binds, with_part, with_frame, top_frame, completed, applied};
 
 use super::{Frame, Reader};
 use formulas::Part;
@@ -31,33 +31,44 @@ impl Frame {
 }
 
 impl Reader {
-    /// How tight the frame on top binds its operand; 0 where there is none.
-    fn top_binding(&self) -> usize
-        ensures { result ≡ binds (top_frame self.now) }
+    pub(crate) fn push_part(&mut self, part: Part)
+        requires { self.old.count < 128 }
+        ensures { self.new ≡ with_part self.old part }
     {
-        self.frames.last().map_or(0, |frame| frame.binding())
+        self.parts[self.count] = part;
+        self.count += 1;
+    }
+
+    pub(crate) fn push_frame(&mut self, frame: Frame)
+        requires { self.old.depth < 128 }
+        ensures { self.new ≡ with_frame self.old frame }
+    {
+        self.frames[self.depth] = frame;
+        self.depth += 1;
     }
 
     /// The frame on top takes the last part as its operand, and becomes a part itself.
     fn apply_top(&mut self)
-        requires room { length (frames_of self.old) + length (parts_of self.old) ≤ 128 }
-        requires some { 0 < length (parts_of self.old) }
+        requires room { self.old.depth + self.old.count ≤ 128 }
+        requires some { 0 < self.old.count }
+        requires open { 0 < self.old.depth }
         requires takes { 0 < binds (top_frame self.old) }
         ensures { self.new ≡ applied self.old }
     {
-        let top = self.frames.pop().unwrap();
-        let operand = self.parts.len() - 1;
-        self.parts.push(top.complete(operand));
+        let top = self.frames[self.depth - 1];
+        let part = top.complete(self.count - 1);
+        self.depth -= 1;
+        self.push_part(part);
     }
 
     /// Every frame on top that binds tighter than `floor` takes its operand.
     pub(crate) fn reduce(&mut self, floor: usize, place: usize)
         requires tables { Tables self.old place }
         requires short { place ≤ 128 }
-        requires some { 0 < length (parts_of self.old) }
+        requires some { 0 < self.old.count }
         ensures { Reduced floor self.old place self.new }
     {
-        while self.top_binding() > floor {
+        while self.depth > 0 && self.frames[self.depth - 1].binding() > floor {
             self.apply_top();
         }
     }

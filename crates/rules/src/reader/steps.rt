@@ -10,7 +10,6 @@ ghost use Rattle.rules.specs.declared.reader.Mode.TheVariants.{Wanting, Having, 
 
 use super::{Frame, Mode, Reader};
 use crate::rule::Rule;
-use arrayvec::ArrayVec;
 use faults::{Cause, Fault, Layer};
 use formulas::{Infix, Part, Sign};
 
@@ -24,8 +23,10 @@ impl Reader {
         ensures temporals { result.temporals ≡ 0 }
     {
         Reader {
-            parts: ArrayVec::new(),
-            frames: ArrayVec::new(),
+            parts: [Part::Constant(false); 128],
+            count: 0,
+            frames: [Frame::Bracket; 128],
+            depth: 0,
             mode: Mode::Wanting,
             temporals: 0,
         }
@@ -56,10 +57,10 @@ impl Reader {
     {
         match sign {
             Sign::Blank => {}
-            Sign::Open => self.frames.push(Frame::Bracket),
+            Sign::Open => self.push_frame(Frame::Bracket),
             Sign::Before(op) => {
                 let location = self.locate(op.is_temporal(), place)?;
-                self.frames.push(Frame::Waiting(op, location));
+                self.push_frame(Frame::Waiting(op, location));
             }
             Sign::Constant(value) => self.push_operand(Part::Constant(value)),
             Sign::Letter(letter) => self.push_operand(Part::Letter(letter)),
@@ -71,10 +72,10 @@ impl Reader {
     }
 
     fn push_operand(&mut self, part: Part)
-        requires { length (parts_of self.old) < 128 }
+        requires { self.old.count < 128 }
         ensures { self.new ≡ in_mode (with_part self.old part) Having }
     {
-        self.parts.push(part);
+        self.push_part(part);
         self.mode = Mode::Having;
     }
 
@@ -131,25 +132,25 @@ impl Reader {
         ensures { Stepped self.old Close place self.new result }
     {
         self.reduce(0, place);
-        match self.frames.pop() {
-            Some(_) => Ok(()),
-            None => Err(Layer::Rule.refusal(Cause::UnexpectedByte, place)),
+        if self.depth == 0 {
+            return Err(Layer::Rule.refusal(Cause::UnexpectedByte, place));
         }
+        self.depth -= 1;
+        Ok(())
     }
 
     /// An infix operator: what binds tighter on its left is its left operand.
     fn join(&mut self, op: Infix, place: usize) -> Result<(), Fault>
         requires tables { Tables self.old place }
         requires more { place < 128 }
-        requires some { 0 < length (parts_of self.old) }
+        requires some { 0 < self.old.count }
         requires numbered { all_locations (parts_of self.old) (frames_of self.old) ≡ counted_from 1 self.old.temporals }
         requires nine { self.old.temporals ≤ 9 }
         ensures { Joining self.old op place self.new result }
     {
         let location = self.locate(op.is_temporal(), place)?;
         self.reduce(op.level(), place);
-        let left = self.parts.len() - 1;
-        self.frames.push(Frame::Halfway(op, left, location));
+        self.push_frame(Frame::Halfway(op, self.count - 1, location));
         self.mode = Mode::Wanting;
         Ok(())
     }
@@ -178,10 +179,10 @@ impl Reader {
             Mode::Wanting | Mode::Dashed => Err(Layer::Rule.refusal(Cause::TextTooShort, length)),
             Mode::Having => {
                 self.reduce(0, length);
-                if !self.frames.is_empty() {
+                if self.depth > 0 {
                     return Err(Layer::Rule.refusal(Cause::TextTooShort, length));
                 }
-                Ok(Rule::assemble(&self.parts))
+                Ok(Rule::assemble(self.parts, self.count))
             }
         }
     }

@@ -1,19 +1,17 @@
 //! The parts of a rule.
-ghost use Rattle.std.specs.Prelude.{◌≡◌};
+ghost use Rattle.std.specs.Prelude.{◌≡◌, ◌≤◌, take};
 ghost use Rattle.rules.specs.Parts.{IsRule};
 ghost use Rattle.rules.specs.Rules.{table};
 
 use formulas::Part;
 
 impl super::Rule {
-    /// The rule of these parts.
-    pub(crate) fn assemble(list: &[Part]) -> super::Rule
-        requires { IsRule list.now }
-        ensures { table result ≡ list.now }
+    /// The rule of the first `count` parts.
+    pub(crate) fn assemble(parts: [Part; 128], count: usize) -> super::Rule
+        requires few { count ≤ 128 }
+        requires formed { IsRule (take count parts) }
+        ensures { table result ≡ take count parts }
     {
-        let count = list.len();
-        let mut parts = [Part::Constant(false); 128];
-        parts[..count].copy_from_slice(list);
         super::Rule { parts, count }
     }
 

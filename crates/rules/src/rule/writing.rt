@@ -3,12 +3,13 @@ ghost use Rattle.std.specs.Prelude.{◌≡◌, ◌+◌, ◌<◌, ◌≤◌, leng
 ghost use Rattle.arrayvec.specs.ArrayVec.{array_vec_len};
 ghost use Rattle.faults.specs.Writing.{put_answer, put_list};
 ghost use Rattle.faults.specs.declared.Layer.TheVariants.{Rule as RuleLayer};
+ghost use Rattle.formulas.specs.Sign.{infix_sign};
 ghost use Rattle.formulas.specs.Written.{written};
 ghost use Rattle.rules.specs.Rules.{table, formula, bracket_if, part_text};
 
 use arrayvec::ArrayVec;
 use faults::{Fault, Layer};
-use formulas::Part;
+use formulas::{Infix, Part};
 
 impl super::Rule {
     /// Writes the rule out: no blanks, and brackets only round what the grammar would otherwise group differently.
@@ -39,7 +40,7 @@ impl super::Rule {
                 let bracketed = op.level() < level;
                 push_if(bracketed, b'(', text);
                 self.append(f, op.left_level(), text);
-                push_all(op.bytes(), text);
+                push_infix(op, text);
                 self.append(g, op.right_level(), text);
                 push_if(bracketed, b')', text);
             }
@@ -56,9 +57,13 @@ fn push_if(wanted: bool, byte: u8, text: &mut ArrayVec<u8, 128>)
     }
 }
 
-fn push_all(bytes: &[u8], text: &mut ArrayVec<u8, 128>)
-    requires { array_vec_len text.old + length bytes.now ≤ 128 }
-    ensures { text.new.items ≡ text.old.items ++ bytes.now }
+fn push_infix(op: Infix, text: &mut ArrayVec<u8, 128>)
+    requires { array_vec_len text.old + length (infix_sign op) ≤ 128 }
+    ensures { text.new.items ≡ text.old.items ++ infix_sign op }
 {
-    text.try_extend_from_slice(bytes).unwrap();
+    let bytes = op.bytes();
+    text.push(bytes[0]);
+    if bytes.len() > 1 {
+        text.push(bytes[1]);
+    }
 }

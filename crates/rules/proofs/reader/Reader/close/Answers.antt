@@ -1,18 +1,14 @@
-use Rattle.std.proofs.Common.{◌≡◌, ◌<◌, length, ap, arith}
-use Rattle.rules.specs.Reading.{frames_of, with_frames, no_rule}
+use Rattle.std.proofs.Common.{◌<◌, arith}
+use Rattle.rules.specs.Reading.{no_rule}
 use Rattle.rules.proofs.Steps.{close_moves, close_fails}
 use Rattle.rules.proofs.reader.Reader.close.Goals as goal
 
-pub returns-in-Some : goal.returns-in-Some
-returns-in-Some c =
-    let q = c.reduce.new.self in
-    let some : 0 < length (frames_of q) = omega (arith, c.in-Some.ensures.len) in
-    let e = ap (with_frames q) c.pop.ensures.rest in
-    rw e (close_moves c.args.self.now c.args.place q c.requires.sane c.requires.more c.requires.mode c.reduce.ensures some)
-
-pub returns-in-None : goal.returns-in-None
-returns-in-None c =
-    let q = c.reduce.new.self in
-    let none : length (frames_of q) ≡ 0 = grind (arith, c.in-None.is, c.pop.ensures.variant) in
+pub returns-then-self-eq0 : goal.returns-then-self-eq0
+returns-then-self-eq0 c =
     let e = c.refusal.ensures in
-    rw e (no_rule (close_fails c.args.self.now c.args.place q c.requires.mode c.reduce.ensures none))
+    rw e (no_rule (close_fails c.args.self.now c.args.place c.reduce.new.self c.requires.mode c.reduce.ensures c.if-self-eq0.true))
+
+pub returns : goal.returns
+returns c =
+    let open_some : 0 < c.reduce.new.self.depth = omega (arith, c.if-self-eq0.false) in
+    close_moves c.args.self.now c.args.place c.reduce.new.self c.requires.sane c.requires.more c.requires.mode c.reduce.ensures open_some

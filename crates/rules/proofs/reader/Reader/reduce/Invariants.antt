@@ -1,5 +1,3 @@
-use Rattle.std.proofs.Common.{length}
-use Rattle.rules.specs.Reading.{frames_of}
 use Rattle.rules.proofs.Reduce.{Reducing}
 use Rattle.rules.proofs.reader.Reader.reduce.Given as goal
 
@@ -7,4 +5,4 @@ abbrev pub invariant-loop-self : goal.invariant-loop-self
 invariant-loop-self l = Reducing l.floor l.initial.self l.place l.self
 
 abbrev pub decreases-loop-self : goal.decreases-loop-self
-decreases-loop-self l = length (frames_of l.self)
+decreases-loop-self l = l.self.depth

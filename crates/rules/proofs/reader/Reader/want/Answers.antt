@@ -1,6 +1,6 @@
 use Rattle.std.proofs.Common.{◌≡◌, ap, arith}
 use Rattle.formulas.proofs.Machine.{wanting, failed, step}
-use Rattle.rules.specs.Reading.{stack, state, parts_of, frames_of, with_frames}
+use Rattle.rules.specs.Reading.{stack, state, parts_of, frames_of}
 use Rattle.std.proofs.lemmas.Result.{err_from_is_err_and}
 use Rattle.rules.proofs.Steps.{stops, open_returns, prefix_returns, prefix_stops, constant_returns, letter_returns}
 use Rattle.rules.proofs.reader.Reader.want.Goals as goal
@@ -19,15 +19,12 @@ returns-in-Close c =
     stops r c.args.sign c.args.place c.refusal.result st (ap (state (parts_of r) (frames_of r)) c.requires.mode) c.refusal.ensures p
 
 pub returns-in-Open : goal.returns-in-Open
-returns-in-Open c =
-    let r = c.args.self.now in
-    open_returns r c.args.sign c.args.place (with_frames r c.push.new.self.items) c.in-Open.is c.requires.sane c.requires.more c.requires.mode (ap (with_frames r) c.push.ensures.items)
+returns-in-Open c = open_returns c.args.self.now c.args.sign c.args.place c.push_frame.new.self c.in-Open.is c.requires.sane c.requires.more c.requires.mode c.push_frame.ensures
 
 pub returns-in_ok-location-in-Before : goal.returns-in_ok-location-in-Before
 returns-in_ok-location-in-Before c =
-    let q = c.locate.new.self in
-    prefix_returns c.args.self.now c.args.sign c.args.place c.in-Before.op q (with_frames q c.push-in-Before.new.self.items) c.is_temporal.result c.in_ok-location-in-Before.location
-    c.in-Before.is c.is_temporal.ensures c.in_ok-location-in-Before.ensures c.requires.sane c.requires.more c.requires.mode (ap (with_frames q) c.push-in-Before.ensures.items)
+    prefix_returns c.args.self.now c.args.sign c.args.place c.in-Before.op c.locate.new.self c.push_frame-in-Before.new.self c.is_temporal.result c.in_ok-location-in-Before.location
+    c.in-Before.is c.is_temporal.ensures c.in_ok-location-in-Before.ensures c.requires.sane c.requires.more c.requires.mode c.push_frame-in-Before.ensures
 
 pub returns-in-Constant : goal.returns-in-Constant
 returns-in-Constant c = constant_returns c.args.self.now c.args.sign c.args.place c.in-Constant.value c.push_operand.new.self c.in-Constant.is c.requires.sane c.requires.more c.requires.mode c.push_operand.ensures

@@ -40,21 +40,21 @@ append-requires-in-Binary t c =
     let n = binary_length c.args.self.now c.args.index c.args.level c.requires.within c.parts.result.now c.parts.ensures.value c.in-Binary.op c.in-Binary.f c.in-Binary.g c.in-Binary.field-3 c.level.result c.left_level.result (right c.in-Binary.op) c.in-Binary.is c.level.ensures c.left_level.ensures refl in
     (omega (arith, b.0.0, c.decreases), (omega (arith, b.0.0, c.requires.within), omega (arith, length-append {A = ℕ}, n, c.requires.room, ap length c.push_if.ensures)))
 
-pub push_all-requires : goal.push_all-requires
-push_all-requires t c =
+pub push_infix-requires : goal.push_infix-requires
+push_infix-requires t c =
     let n = binary_length c.args.self.now c.args.index c.args.level c.requires.within c.parts.result.now c.parts.ensures.value c.in-Binary.op c.in-Binary.f c.in-Binary.g c.in-Binary.field-3 c.level.result c.left_level.result (right c.in-Binary.op) c.in-Binary.is c.level.ensures c.left_level.ensures refl in
-    omega (arith, length-append {A = ℕ}, n, c.requires.room, ap length c.push_if.ensures, ap length c.append-in-Binary.ensures, ap length c.bytes.ensures)
+    omega (arith, length-append {A = ℕ}, n, c.requires.room, ap length c.push_if.ensures, ap length c.append-in-Binary.ensures)
 
 pub append-requires-in-Binary-2 : goal.append-requires-in-Binary-2
 append-requires-in-Binary-2 t c =
     let b = binary_text c.args.self.now c.args.index c.args.level c.requires.within c.parts.result.now c.parts.ensures.value c.in-Binary.op c.in-Binary.f c.in-Binary.g c.in-Binary.field-3 c.level.result c.left_level.result c.right_level.result c.in-Binary.is c.level.ensures c.left_level.ensures c.right_level.ensures in
     let n = binary_length c.args.self.now c.args.index c.args.level c.requires.within c.parts.result.now c.parts.ensures.value c.in-Binary.op c.in-Binary.f c.in-Binary.g c.in-Binary.field-3 c.level.result c.left_level.result c.right_level.result c.in-Binary.is c.level.ensures c.left_level.ensures c.right_level.ensures in
-    (omega (arith, b.0.1, c.decreases), (omega (arith, b.0.1, c.requires.within), omega (arith, length-append {A = ℕ}, n, c.requires.room, ap length c.push_if.ensures, ap length c.append-in-Binary.ensures, ap length c.push_all.ensures, ap length c.bytes.ensures)))
+    (omega (arith, b.0.1, c.decreases), (omega (arith, b.0.1, c.requires.within), omega (arith, length-append {A = ℕ}, n, c.requires.room, ap length c.push_if.ensures, ap length c.append-in-Binary.ensures, ap length c.push_infix.ensures)))
 
 pub push_if-requires-in-Binary : goal.push_if-requires-in-Binary
 push_if-requires-in-Binary t c =
     let n = binary_length c.args.self.now c.args.index c.args.level c.requires.within c.parts.result.now c.parts.ensures.value c.in-Binary.op c.in-Binary.f c.in-Binary.g c.in-Binary.field-3 c.level.result c.left_level.result c.right_level.result c.in-Binary.is c.level.ensures c.left_level.ensures c.right_level.ensures in
-    omega (arith, length-append {A = ℕ}, n, c.requires.room, ap length c.push_if.ensures, ap length c.append-in-Binary.ensures, ap length c.push_all.ensures, ap length c.bytes.ensures, ap length c.append-in-Binary-2.ensures)
+    omega (arith, length-append {A = ℕ}, n, c.requires.room, ap length c.push_if.ensures, ap length c.append-in-Binary.ensures, ap length c.push_infix.ensures, ap length c.append-in-Binary-2.ensures)
 
 pub returns-after-value : goal.returns-after-value
 returns-after-value t c =
@@ -74,4 +74,4 @@ returns-in-Unary t c =
 pub returns-in-Binary : goal.returns-in-Binary
 returns-in-Binary t c =
     let b = binary_text c.args.self.now c.args.index c.args.level c.requires.within c.parts.result.now c.parts.ensures.value c.in-Binary.op c.in-Binary.f c.in-Binary.g c.in-Binary.field-3 c.level.result c.left_level.result c.right_level.result c.in-Binary.is c.level.ensures c.left_level.ensures c.right_level.ensures in
-    five_appended _ _ _ _ _ _ _ _ _ _ _ _ c.push_if.ensures c.append-in-Binary.ensures (c.push_all.ensures ∙ ap (λ (x : List ℕ). c.append-in-Binary.new.text.items ++ x) c.bytes.ensures) c.append-in-Binary-2.ensures c.push_if-in-Binary.ensures b.1
+    five_appended _ _ _ _ _ _ _ _ _ _ _ _ c.push_if.ensures c.append-in-Binary.ensures c.push_infix.ensures c.append-in-Binary-2.ensures c.push_if-in-Binary.ensures b.1
