@@ -77,11 +77,11 @@ impl Drawing {
         if to >= self.count {
             return Err(Layer::Drawing.refusal(Cause::NoSuchArgument, 3));
         }
-        let state = self.states[from];
-        if state.next[event].is_some() {
+        let old = self.states[from].next[event];
+        if old.is_some() {
             return Err(Layer::Drawing.refusal(Cause::AlreadyJoined, from));
         }
-        self.states[from] = state.with_next(event, Some(to as u8));
+        self.states[from].set_next(event, Some(to as u8));
         Ok(())
     }
 
@@ -96,11 +96,11 @@ impl Drawing {
         if event >= EVENTS {
             return Err(Layer::Drawing.refusal(Cause::NoSuchArgument, 2));
         }
-        let state = self.states[from];
-        if state.next[event].is_none() {
+        let old = self.states[from].next[event];
+        if old.is_none() {
             return Err(Layer::Drawing.refusal(Cause::NotJoined, from));
         }
-        self.states[from] = state.with_next(event, None);
+        self.states[from].set_next(event, None);
         Ok(())
     }
 

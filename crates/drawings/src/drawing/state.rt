@@ -23,15 +23,13 @@ impl State {
         }
     }
 
-    /// The state with this next state by an event.
-    pub(crate) fn with_next(self, event: usize, to: Option<u8>) -> State
+    /// Sets the next state by an event.
+    pub(crate) fn set_next(&mut self, event: usize, to: Option<u8>)
         requires { event < 16 }
-        ensures start { result.start ≡ self.start }
-        ensures label { result.label ≡ self.label }
-        ensures next { (e : ℕ) → slice_index_or result.next e None ≡ (if e == event then to else slice_index_or self.next e None) }
+        ensures start { self.new.start ≡ self.old.start }
+        ensures label { self.new.label ≡ self.old.label }
+        ensures next { (e : ℕ) → slice_index_or self.new.next e None ≡ (if e == event then to else slice_index_or self.old.next e None) }
     {
-        let mut next = self.next;
-        next[event] = to;
-        State { next, ..self }
+        self.next[event] = to;
     }
 }

@@ -1,7 +1,7 @@
 //! Writing a drawing as a file.
 ghost use Rattle.std.specs.Prelude.{◌≡◌, ◌+◌, ◌*◌, ◌<◌, ◌≤◌, length};
 ghost use Rattle.std.specs.List.{range_with_len, flat_map};
-ghost use Rattle.tables.specs.Writes.{pasted, presses, pair_bytes, press_bytes, state_bytes, write_answer, after_write, ReadsBack};
+ghost use Rattle.tables.specs.Writes.{pasted, presses, press_bytes, press_here, state_bytes, write_answer, after_write, ReadsBack};
 ghost use Rattle.drawings.specs.Drawn.{drawn};
 
 use crate::checks::{PRESS_SIZE, STATE_SIZE};
@@ -19,15 +19,26 @@ fn put(out: &mut [u8], at: usize, bytes: &[u8])
 }
 
 impl Drawing {
+    /// The next state of one state and event, both of which are there.
+    fn entry(&self, state: usize, event: usize) -> Option<u8>
+        requires state { state < self.now.count }
+        requires event { event < 16 }
+        ensures { result ≡ (drawn self.now).next state event }
+    {
+        self.states[state].next[event]
+    }
+
     /// How many presses there are.
     fn count_presses(&self) -> usize
         ensures all { result ≡ length (presses (drawn self.now) (self.now.count * 16)) }
         ensures few { result ≤ 1024 }
     {
         let mut total = 0;
-        for i in 0..self.count * EVENTS {
-            if self.next(i / EVENTS, i % EVENTS).is_some() {
-                total += 1;
+        for state in 0..self.count {
+            for event in 0..EVENTS {
+                if self.entry(state, event).is_some() {
+                    total += 1;
+                }
             }
         }
         total
@@ -49,20 +60,16 @@ impl Drawing {
     }
 
     /// Writes the press of one state and event, if they have a next state, and answers the place behind it.
-    fn put_press(&self, out: &mut [u8], at: usize, i: usize) -> usize
-        requires here { i < self.now.count * 16 }
-        requires room { at + length (pair_bytes (drawn self.now) i) ≤ length out.old }
-        ensures end { result ≡ at + length (pair_bytes (drawn self.now) i) }
-        ensures leaves { out.new ≡ pasted at (pair_bytes (drawn self.now) i) out.old }
+    fn put_press(&self, out: &mut [u8], at: usize, state: usize, event: usize) -> usize
+        requires state { state < self.now.count }
+        requires event { event < 16 }
+        requires room { at + length (flat_map press_bytes (press_here state event ((drawn self.now).next state event))) ≤ length out.old }
+        ensures end { result ≡ at + length (flat_map press_bytes (press_here state event ((drawn self.now).next state event))) }
+        ensures leaves { out.new ≡ pasted at (flat_map press_bytes (press_here state event ((drawn self.now).next state event))) out.old }
     {
-        let (from, event) = (i / EVENTS, i % EVENTS);
-        match self.next(from, event) {
+        match self.entry(state, event) {
             Some(to) => {
-                put(
-                    out,
-                    at,
-                    &[b'D', b'P', from as u8, 0, event as u8, to as u8, 0],
-                );
+                put(out, at, &[b'D', b'P', state as u8, 0, event as u8, to, 0]);
                 at + PRESS_SIZE
             }
             None => at,
@@ -86,8 +93,10 @@ impl Drawing {
         ensures leaves { out.new ≡ pasted (5 + 5 * self.now.count) (flat_map press_bytes (presses (drawn self.now) (self.now.count * 16))) out.old }
     {
         let mut at = STATE_SIZE + STATE_SIZE * self.count;
-        for i in 0..self.count * EVENTS {
-            at = self.put_press(out, at, i);
+        for state in 0..self.count {
+            for event in 0..EVENTS {
+                at = self.put_press(out, at, state, event);
+            }
         }
         at
     }

@@ -5,6 +5,6 @@ use Rattle.drawings.proofs.drawing.Drawing.cut.Goals as goal
 pub returns-clause-leaves : goal.returns-clause-leaves
 returns-clause-leaves c =
     let d = c.args.self.now in
-    let x = c.with_next.ensures in
-    redirects_to d.count d.states c.args.from c.args.event None c.with_next.result (omega arith) x.start x.label x.next (omega arith) (omega arith)
+    let x = c.set_next.ensures in
+    redirects_to d.count d.states c.args.from c.args.event None c.set_next.new.self (omega arith) x.start x.label x.next (omega arith) (omega arith)
     ∙ cuts d.count d.states c.args.from c.args.event (omega arith) (omega arith) (c.is_none.ensures ∙ ap not c.if-is_none.false)

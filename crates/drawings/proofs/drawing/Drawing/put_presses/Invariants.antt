@@ -1,10 +1,10 @@
-use Rattle.std.proofs.Common.{◌≡◌, ◌+◌, ◌*◌, ◌++◌, length, take}
-use Rattle.std.specs.List.{flat_map}
-use Rattle.tables.specs.Writes.{press_bytes, presses, with_front}
+use Rattle.std.proofs.Common.{◌+◌, ◌*◌}
 use Rattle.drawings.specs.Drawn.{drawn}
+use Rattle.drawings.proofs.Presses.{Put}
 use Rattle.drawings.proofs.drawing.Drawing.put_presses.Given as goal
 
-abbrev pub invariant-loop-i : goal.invariant-loop-i
-invariant-loop-i l =
-    (l.out ≡ with_front (take (5 + 5 * l.self.count) l.initial.out ++ flat_map press_bytes (presses (drawn l.self) l.i)) l.initial.out)
-    × (l.at ≡ 5 + 5 * l.self.count + 7 * length (presses (drawn l.self) l.i))
+abbrev pub invariant-loop-state : goal.invariant-loop-state
+invariant-loop-state l = Put (drawn l.self) l.fn.out l.out l.at (l.state * 16)
+
+abbrev pub invariant-loop-event : goal.invariant-loop-event
+invariant-loop-event l = Put (drawn l.self) l.fn.out l.out l.at (l.state * 16 + l.event)
