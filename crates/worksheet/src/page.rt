@@ -33,6 +33,13 @@ impl Page {
         self.bytes.extend_from_slice(line.as_bytes())
     }
 
+    /// A line of plain words.
+    fn plain(&mut self, sign: &[u8], words: &str) -> Result<(), AllocError> {
+        self.bytes.extend_from_slice(sign)?;
+        self.bytes.extend_from_slice(words.as_bytes())?;
+        self.bytes.extend_from_slice(b"\n")
+    }
+
     /// An answer.
     pub(crate) fn answer<D: Display + Drop>(&mut self, words: D) -> Result<(), AllocError> {
         self.line('=', words)
@@ -40,12 +47,12 @@ impl Page {
 
     /// The answer `= done`.
     pub(crate) fn done(&mut self) -> Result<(), AllocError> {
-        self.answer("done")
+        self.plain(b"= ", "done")
     }
 
     /// A line of detail.
     pub(crate) fn detail(&mut self, text: &str) -> Result<(), AllocError> {
-        self.line(' ', text)
+        self.plain(b"  ", text)
     }
 
     /// A refusal, with its cause in words.
@@ -56,7 +63,7 @@ impl Page {
 
     /// A line that is not understood.
     pub(crate) fn unknown(&mut self, why: &str) -> Result<(), AllocError> {
-        self.line('?', why)
+        self.plain(b"? ", why)
     }
 }
 

@@ -145,23 +145,26 @@ impl Sheet {
         Ok(page.answer(verdict)?)
     }
 
+    /// A rule is kept once it is written out, for which no memory is asked.
     fn read_rule(&mut self, text: &[u8], page: &mut Page) -> Result<(), Stop> {
         let rule = rules::read(text)?;
+        let mut out = [0u8; LONGEST_RULE];
+        let count = rule.write(&mut out)?;
         self.rule = Some(rule);
-        let text = written(self.heap, LONGEST_RULE, |out| rule.write(out))?;
-        Ok(page.answer(Text(text.as_slice()))?)
+        Ok(page.answer(Text(&out[..count.min(LONGEST_RULE)]))?)
     }
 
     fn write_rule(&mut self, words: &mut Words, page: &mut Page) -> Result<(), Stop> {
         let rule = self.rule()?;
-        let need = written(self.heap, LONGEST_RULE, |out| rule.write(out))?.len();
+        let need = rule.write(&mut [0u8; LONGEST_RULE])?;
         let text = written(self.heap, room(words, need)?, |out| rule.write(out))?;
         show_bytes(text.as_slice(), page)
     }
 
     fn write_file(&mut self, words: &mut Words, page: &mut Page) -> Result<(), Stop> {
         let drawing = &self.drawing;
-        let need = written(self.heap, LONGEST_FILE, |out| drawing.write(out))?.len();
+        let mut out = vec![in self.heap; 0u8; LONGEST_FILE]?;
+        let need = drawing.write(out.as_mut_slice())?;
         let file = written(self.heap, room(words, need)?, |out| drawing.write(out))?;
         show_bytes(file.as_slice(), page)
     }

@@ -1,6 +1,17 @@
 //! How values are shown in an answer.
-use std::fmt;
 use std::fmt::Write;
+use std::{fmt, str};
+
+/// How many bytes or marks are shown at a time.
+const PIECE: usize = 64;
+
+/// The digits of marks.
+const DIGITS: &[u8; 16] = b"0123456789abcdef";
+
+/// Shows bytes of ASCII.
+fn show<W: fmt::Write>(text: &[u8], f: &mut fmt::Formatter<W>) -> fmt::Result {
+    f.write_str(str::from_utf8(text).map_err(|_| fmt::Error)?)
+}
 
 /// Two hexadecimal digits for each byte; `-` for none.
 #[derive(Clone, Copy)]
@@ -11,8 +22,11 @@ impl<'a> fmt::Display for Hex<'a> {
         if self.0.is_empty() {
             return f.write_str("-");
         }
-        for byte in self.0 {
-            write!(f, "{byte:02x}")?;
+        for piece in self.0.chunks(PIECE) {
+            let mut digits = [0u8; 2 * PIECE];
+            let text = &mut digits[..2 * piece.len().min(PIECE)];
+            hex::encode_to_slice(piece, &mut *text).map_err(|_| fmt::Error)?;
+            show(text, f)?;
         }
         Ok(())
     }
@@ -27,8 +41,13 @@ impl<'a> fmt::Display for Marks<'a> {
         if self.0.is_empty() {
             return f.write_str("-");
         }
-        for mark in self.0 {
-            write!(f, "{mark:x}")?;
+        for piece in self.0.chunks(PIECE) {
+            let mut digits = [0u8; PIECE];
+            let text = &mut digits[..piece.len().min(PIECE)];
+            for (digit, mark) in text.iter_mut().zip(piece) {
+                *digit = DIGITS[(*mark % 16) as usize];
+            }
+            show(text, f)?;
         }
         Ok(())
     }
@@ -40,10 +59,7 @@ pub struct Text<'a>(pub &'a [u8]);
 
 impl<'a> fmt::Display for Text<'a> {
     fn fmt<W: fmt::Write>(&self, f: &mut fmt::Formatter<W>) -> fmt::Result {
-        for byte in self.0 {
-            f.write_char(char::from(*byte))?;
-        }
-        Ok(())
+        show(self.0, f)
     }
 }
 

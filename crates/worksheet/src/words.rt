@@ -58,10 +58,13 @@ impl<'a> Iterator for Words<'a> {
 
 /// A decimal number, up to the largest of 64 bits.
 pub(crate) fn number(word: &[u8]) -> Option<u64> {
-    if !word.iter().all(|b| b.is_ascii_digit()) {
+    if word.is_empty() {
         return None;
     }
-    str::from_utf8(word).ok()?.parse::<u64>().ok()
+    word.iter().try_fold(0u64, |n, digit| match *digit {
+        b'0'..=b'9' => n.checked_mul(10)?.checked_add(u64::from(*digit - b'0')),
+        _ => None,
+    })
 }
 
 /// Bytes in hexadecimal, two digits each, `-` for none; `wanted` says what a line without them lacks.
