@@ -31,7 +31,7 @@ module _ (t : Table) (f : Formula) (lists : Lengths) (p o : ℕ) (room : Room li
   pub served_presses : size t f ≤ 512 → (locations f + 1) * size t f ≤ 5120
   served_presses h = few_presses t.states (locations f) h
 
-  small_served : size t f ≤ 512 → short_list t f lists p ≡ None
+  pub small_served : size t f ≤ 512 → short_list t f lists p ≡ None
   small_served h =
       let few = served_presses h in
       let a = le-ltb lists.marks (size t f) (omega arith) in
@@ -41,7 +41,7 @@ module _ (t : Table) (f : Formula) (lists : Lengths) (p o : ℕ) (room : Room li
       let e = le-ltb p ((locations f + 1) * size t f) (omega arith) in
       simp (a, b, c, d, e)
 
-  large_unserved : 512 < size t f → short_list t f lists p ≡ Some 1
+  pub large_unserved : 512 < size t f → short_list t f lists p ≡ Some 1
   large_unserved h =
       let short = lt-ltb lists.marks (size t f) (omega arith) in
       simp short

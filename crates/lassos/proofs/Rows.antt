@@ -54,7 +54,7 @@ lit_byte : (b : Bool) → not (eqb (bool_byte b) 0) ≡ b
 lit_byte true = refl
 lit_byte false = refl
 
-lit_set : (bytes : List ℕ) (at : ℕ) (b : Bool) → at < length bytes → lit (set bytes at (bool_byte b)) at ≡ b
+pub lit_set : (bytes : List ℕ) (at : ℕ) (b : Bool) → at < length bytes → lit (set bytes at (bool_byte b)) at ≡ b
 lit_set bytes at b l = ap (λ (x : ℕ). not (eqb x 0)) (get_or-set_same bytes at (bool_byte b) 0 l) ∙ lit_byte b
 
 lit_beside : (bytes : List ℕ) (at j : ℕ) (b : Bool) → (j ≡ at → ⊥) → lit (set bytes at (bool_byte b)) j ≡ lit bytes j
@@ -135,7 +135,7 @@ infix_start Until left right = left
 infix_start Release left right = left
 
 -- a started row of F, G, U or R, settled
-settled_row : (dual : Bool) (start new goal : List ℕ) (n u : ℕ) (stay : ℕ → Bool) → u < n → Holds start n stay → Holds new n (settled dual (lit start) (lit goal) n u) → Holds new n (infixed n u (swept_infix dual) stay (lit goal))
+pub settled_row : (dual : Bool) (start new goal : List ℕ) (n u : ℕ) (stay : ℕ → Bool) → u < n → Holds start n stay → Holds new n (settled dual (lit start) (lit goal) n u) → Holds new n (infixed n u (swept_infix dual) stay (lit goal))
 settled_row dual start new goal n u stay h started sweeps =
     record {
       long = sweeps.long;
